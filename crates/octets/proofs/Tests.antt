@@ -1,0 +1,38 @@
+-- What the tests that led to a return say of a choice, and `tests`, by which `search` puts them to use.
+-- Assumes nothing.
+use Prim.Native.Nat.{ℕ}
+use mathlib.Core.Path.{_≡_, sym, _∙_, ap}
+use mathlib.Core.Bool.{Bool, true, false, not}
+use borrow.Author.Tests.{eq-eqb, ne-eqb, le-leb, lt-leb, le-ltb, lt-ltb, not-true, not-false}
+use Rattle.octets.specs.Pick.{pick}
+
+module _ {X : Type 0} (b : Bool) (x y : X) where
+  pub pick-true : b ≡ true → pick b x y ≡ x
+  unfolding pick
+  pick-true e = rw e
+
+  pub pick-false : b ≡ false → pick b x y ≡ y
+  unfolding pick
+  pick-false e = rw e
+
+-- what holds of both choices holds of the one made
+pub pick-both : (P : ℕ → Type 0) (b : Bool) {x y : ℕ} → P x → P y → P (pick b x y)
+unfolding pick
+pick-both P true p q = p
+pick-both P false p q = q
+
+-- a test is what the function that was called ensures of it
+pub said : (r b v : Bool) → r ≡ b → r ≡ v → b ≡ v
+said r b v e t = sym e ∙ t
+
+pub said-not : (r b v : Bool) → r ≡ b → not r ≡ v → not b ≡ v
+said-not r b v e t = ap not (sym e) ∙ t
+
+-- the same after `if !f(..)`
+pub denied : (r b : Bool) → r ≡ b → not r ≡ true → b ≡ false
+denied r b e t = sym e ∙ not-true r t
+
+pub granted : (r b : Bool) → r ≡ b → not r ≡ false → b ≡ true
+granted r b e t = sym e ∙ not-false r t
+
+pub ruleset tests = (pick-true, pick-false, said, said-not, eq-eqb, ne-eqb, le-leb, lt-leb, le-ltb, lt-ltb)

@@ -1,0 +1,14 @@
+-- `octets::byte_at` meets its contract: past the end the definition gives 0 too.
+-- Assumes nothing.
+use borrow.Author.Needs.{needs}
+use lib.ListN.{List·getD-eq-default}
+use mathlib.Core.Path.{sym}
+use denote.Ref.{now}
+use Rattle.octets.proofs.byte_at.Statement.{statement}
+use Rattle.octets.proofs.byte_at.Tie as tie
+
+returns-2 : tie.Need-returns-2
+returns-2 c = sym (List·getD-eq-default (now (c .before .args .s)) 0 (c .if1 .left))
+
+pub byte-at-spec : {M : Type 1} → statement M
+byte-at-spec = tie.close (tie.spec (λ c. search needs) (λ c. search needs) returns-2)

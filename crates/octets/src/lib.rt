@@ -1,0 +1,98 @@
+// Numbers in byte slices, least significant byte first, and sets of small numbers as bits.
+// A byte past the end of a slice is read as 0 and is not written, so no call has to show that it is within.
+ghost use mathlib.Core.Path.{_≡_};
+ghost use Prim.Native.Nat.{_+_, _≤_, _<_, _^_};
+ghost use lib.ListN.{getD, set};
+ghost use lib.Seq.{sets};
+ghost use Rattle.octets.specs.Octets.{numberAt, bytesOf};
+ghost use Rattle.octets.specs.Bits.{hasBit, withBit};
+
+pub fn byte_at(s: &[u8], i: usize) -> u8
+    ensures { λ r. ⌜ r ≡ getD (now (s .entry)) i 0 ⌝ }
+{
+    if i < s.len() { s[i] } else { 0 }
+}
+
+pub fn u16_at(s: &[u8], i: usize) -> u16
+    requires { ⌜ i + 2 ≤ 2 ^ 32 ⌝ }
+    ensures { λ r. ⌜ r ≡ numberAt 2 (now (s .entry)) i ⌝ }
+{
+    let low = byte_at(s, i) as u16;
+    let high = byte_at(s, i + 1) as u16;
+    low + 256 * high
+}
+
+pub fn u32_at(s: &[u8], i: usize) -> u32
+    requires { ⌜ i + 4 ≤ 2 ^ 32 ⌝ }
+    ensures { λ r. ⌜ r ≡ numberAt 4 (now (s .entry)) i ⌝ }
+{
+    let low = u16_at(s, i) as u32;
+    let high = u16_at(s, i + 2) as u32;
+    low + 65536 * high
+}
+
+pub fn u64_at(s: &[u8], i: usize) -> u64
+    requires { ⌜ i + 8 ≤ 2 ^ 32 ⌝ }
+    ensures { λ r. ⌜ r ≡ numberAt 8 (now (s .entry)) i ⌝ }
+{
+    let low = u32_at(s, i) as u64;
+    let high = u32_at(s, i + 4) as u64;
+    low + 4294967296 * high
+}
+
+pub fn put_byte(out: &mut [u8], i: usize, b: u8)
+    ensures { λ _. ⌜ now (out .exit) ≡ set (now (out .entry)) i b ⌝ }
+{
+    if i < out.len() {
+        out[i] = b;
+    }
+}
+
+// The lowest width bytes of v.
+pub fn put(out: &mut [u8], i: usize, width: usize, v: u64)
+    requires { ⌜ i + width ≤ 2 ^ 32 ⌝ }
+    ensures { λ _. ⌜ now (out .exit) ≡ sets (now (out .entry)) i (bytesOf width v) ⌝ }
+{
+    let mut rest = v;
+    let mut k: usize = 0;
+    while k < width {
+        put_byte(out, i + k, (rest % 256) as u8);
+        rest = rest / 256;
+        k += 1;
+    }
+}
+
+pub fn put_u16(out: &mut [u8], i: usize, v: u16)
+    requires { ⌜ i + 2 ≤ 2 ^ 32 ⌝ }
+    ensures { λ _. ⌜ now (out .exit) ≡ sets (now (out .entry)) i (bytesOf 2 v) ⌝ }
+{
+    put(out, i, 2, v as u64);
+}
+
+pub fn put_u32(out: &mut [u8], i: usize, v: u32)
+    requires { ⌜ i + 4 ≤ 2 ^ 32 ⌝ }
+    ensures { λ _. ⌜ now (out .exit) ≡ sets (now (out .entry)) i (bytesOf 4 v) ⌝ }
+{
+    put(out, i, 4, v as u64);
+}
+
+pub fn put_u64(out: &mut [u8], i: usize, v: u64)
+    requires { ⌜ i + 8 ≤ 2 ^ 32 ⌝ }
+    ensures { λ _. ⌜ now (out .exit) ≡ sets (now (out .entry)) i (bytesOf 8 v) ⌝ }
+{
+    put(out, i, 8, v);
+}
+
+pub fn has_bit(x: u64, k: u64) -> bool
+    requires { ⌜ k < 64 ⌝ }
+    ensures { λ r. ⌜ r ≡ hasBit x k ⌝ }
+{
+    (x >> k) % 2 == 1
+}
+
+pub fn with_bit(x: u64, k: u64) -> u64
+    requires { ⌜ k < 64 ⌝ }
+    ensures { λ r. ⌜ r ≡ withBit x k ⌝ }
+{
+    x | (1 << k)
+}

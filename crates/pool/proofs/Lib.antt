@@ -1,0 +1,4 @@
+pub mod Walk
+pub mod Faults
+pub mod Lists
+pub mod Repeats

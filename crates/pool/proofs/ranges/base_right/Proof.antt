@@ -1,0 +1,11 @@
+-- `pool::ranges::base_right` meets its contract: its result is what the definition makes of what the callees return.
+-- Assumes nothing.
+use borrow.Author.Needs.{needs}
+use Rattle.pool.proofs.ranges.base_right.Statement.{statement}
+use Rattle.pool.proofs.ranges.base_right.Tie as tie
+
+returns : tie.Need-returns
+returns c = cc
+
+pub base-right-spec : {M : Type 1} → statement M
+base-right-spec = tie.close (tie.spec (λ c κs. search needs) returns)

@@ -1,0 +1,11 @@
+-- `pool::ranges::function_right` meets its contract: its result is what the definition makes of what the callees return.
+-- Assumes nothing.
+use borrow.Author.Needs.{needs}
+use Rattle.pool.proofs.ranges.function_right.Statement.{statement}
+use Rattle.pool.proofs.ranges.function_right.Tie as tie
+
+returns : tie.Need-returns
+returns c = cc
+
+pub function-right-spec : {M : Type 1} → statement M
+function-right-spec = tie.close (tie.spec (λ c κs. search needs) (λ c κs. search needs) (λ c κs. search needs) (λ c κs. search needs) returns)

@@ -1,0 +1,11 @@
+-- `pool::ranges::shown_right` meets its contract: its result is what the definition makes of what the callees return.
+-- Assumes nothing.
+use borrow.Author.Needs.{needs}
+use Rattle.pool.proofs.ranges.shown_right.Statement.{statement}
+use Rattle.pool.proofs.ranges.shown_right.Tie as tie
+
+returns : tie.Need-returns
+returns c = cc
+
+pub shown-right-spec : {M : Type 1} → statement M
+shown-right-spec = tie.close (tie.spec (λ c κs. search needs) returns)

@@ -1,0 +1,11 @@
+-- `pool::stage_two::character_right` meets its contract: its result is what the definition makes of what the callees return.
+-- Assumes nothing.
+use borrow.Author.Needs.{needs}
+use Rattle.pool.proofs.stage_two.character_right.Statement.{statement}
+use Rattle.pool.proofs.stage_two.character_right.Tie as tie
+
+returns : tie.Need-returns
+returns c = cc
+
+pub character-right-spec : {M : Type 1} → statement M
+character-right-spec = tie.close (tie.spec (λ c κs. search needs) returns)

@@ -1,0 +1,71 @@
+-- `pool::stage_two::functions_fault` meets its contract. The loop's invariant: the first fault of a function of the list is the first from here.
+-- The measure is what is left of the list. Assumes nothing.
+use Prim.Native.Nat.{_-_}
+use native.Mathlib.Omega.{arith}
+use mathlib.Core.Path.{_≡_, refl, sym, ap, _∙_}
+use lib.ListN.{getD, drop}
+use denote.Ref.{now}
+use Rattle.pool.specs.Verdicts.{firstFault}
+use Rattle.pool.specs.Fields.{numbersAt}
+use Rattle.pool.specs.StageTwo.{statesFault}
+use Rattle.pool.proofs.Faults.{fault-end, fault-here, fault-next}
+use Rattle.pool.proofs.Lists.{length-numbers, number-in}
+use Rattle.pool.proofs.stage_two.functions_fault.Statement.{statement}
+use Rattle.pool.proofs.stage_two.functions_fault.Tie as tie
+
+abbrev Inv-loop : tie.InvT-loop
+Inv-loop s ps code at count k₀ k =
+    firstFault (statesFault s ps code) (numbersAt 2 s at count) ≡ firstFault (statesFault s ps code) (drop k (numbersAt 2 s at count))
+
+abbrev μ-loop : tie.MeasureT-loop
+μ-loop s ps code at count k₀ k = count - k
+
+returns : tie.Need-returns Inv-loop μ-loop
+returns c =
+    let at-fault = c .before .before in
+    let at-number = at-fault .before in
+    let at-loop = at-number .before .before in
+    let i = at-loop .loop in
+    let a = at-loop .before .before .before .args in
+    let s = now (a .s) in
+    let l = numbersAt 2 s (a .at) (a .count) in
+    let f = statesFault s (now (a .ps)) (a .code) in
+    let n : getD l (i .k) 0 ≡ at-number .u16-at .result = number-in 2 s (a .at) (a .count) (i .k) (omega arith) ∙ sym (at-number .u16-at .ensures) in
+    sym (i .inv ∙ fault-here f l (i .k) (at-fault .states-fault .result) (omega (arith, length-numbers 2 s (a .at) (a .count))) (ap f n ∙ sym (at-fault .states-fault .ensures)) (c .if1 .taken))
+
+loop-again : tie.Need-loop-again Inv-loop μ-loop
+loop-again c =
+    let at-fault = c .before .before in
+    let at-number = at-fault .before in
+    let at-loop = at-number .before .before in
+    let i = at-loop .loop in
+    let a = at-loop .before .before .before .args in
+    let s = now (a .s) in
+    let l = numbersAt 2 s (a .at) (a .count) in
+    let f = statesFault s (now (a .ps)) (a .code) in
+    let n : getD l (i .k) 0 ≡ at-number .u16-at .result = number-in 2 s (a .at) (a .count) (i .k) (omega arith) ∙ sym (at-number .u16-at .ensures) in
+    i .inv ∙ fault-next f l (i .k) (at-fault .states-fault .result) (omega (arith, length-numbers 2 s (a .at) (a .count))) (ap f n ∙ sym (at-fault .states-fault .ensures)) (c .if1 .left)
+
+returns-2 : tie.Need-returns-2 Inv-loop μ-loop
+returns-2 c =
+    let i = c .before .loop in
+    let a = c .before .before .before .before .args in
+    let s = now (a .s) in
+    sym (i .inv ∙ fault-end (statesFault s (now (a .ps)) (a .code)) (numbersAt 2 s (a .at) (a .count)) (i .k) (omega (arith, length-numbers 2 s (a .at) (a .count))))
+
+pub functions-fault-spec : {M : Type 1} → statement M
+functions-fault-spec =
+    tie.close
+    (tie.spec
+    Inv-loop
+    μ-loop
+    (λ c. refl)
+    (λ c. omega arith)
+    (λ c. omega arith)
+    (λ c κs. omega arith)
+    (λ c κs. omega arith)
+    returns
+    (λ c. omega arith)
+    (λ c. omega arith)
+    loop-again
+    returns-2)

@@ -1,0 +1,7 @@
+pub mod Verdicts
+pub mod Fields
+pub mod Ranges
+pub mod StageOne
+pub mod StageTwo
+pub mod Pool
+pub mod Cases

@@ -1,0 +1,82 @@
+// The object pool of a client (ISO 11783-14, annex A): its objects, and the check that takes or refuses it with a code of D.9.
+mod fields;
+mod ranges;
+mod stage_one;
+mod stage_two;
+
+ghost use mathlib.Core.Path.{_≡_};
+ghost use Rattle.pool.specs.Pool.{verdictOf};
+ghost use Rattle.pool.specs.Cases.{Cases};
+
+// A code of D.9, 0 for success, and the number of the object it is about.
+#[repr(C)]
+pub struct Verdict {
+    pub code: u8,
+    pub object: u16,
+}
+
+// The fixed part of a base: table A.1, bytes 1 to 27. n and m are the labels' lengths, o the number of functions listed.
+pub struct BaseHead {
+    pub number: u16,
+    pub version: u8,
+    pub master: u64,
+    pub mask: u64,
+    pub name: u16,
+    pub picture: u16,
+    pub n: u8,
+    pub m: u8,
+    pub o: u8,
+}
+
+// The fixed part of a function: table A.2, bytes 1 to 30. The offset and the scale are their bits; s is the number of states listed.
+pub struct FunctionHead {
+    pub number: u16,
+    pub function: u8,
+    pub trigger: u8,
+    pub attribute: u8,
+    pub minimum: u32,
+    pub maximum: u32,
+    pub offset: u32,
+    pub scale: u32,
+    pub decimals: u8,
+    pub unit: u16,
+    pub name: u16,
+    pub picture: u16,
+    pub s: u8,
+}
+
+// A state: table A.3.
+pub struct StateHead {
+    pub number: u16,
+    pub state: u8,
+    pub name: u16,
+    pub picture: u16,
+}
+
+pub enum Head {
+    Base(BaseHead),
+    Function(FunctionHead),
+    State(StateHead),
+}
+
+// The verdict on any bytes at all.
+pub fn check(pool: &[u8]) -> Verdict
+    ensures { λ r. ⌜ r ≡ verdictOf (now (pool .entry)) ⌝ }
+{
+    if 16384 < pool.len() {
+        return Verdict {
+            code: 255,
+            object: 65535,
+        };
+    }
+    let one = stage_one::stage_one(pool);
+    if one.code != 0 {
+        return one;
+    }
+    stage_two::stage_two(pool)
+}
+
+// The worked cases of document 01 that concern pools hold of the definition: nothing is done, the contract says so.
+pub fn cases()
+    ensures { λ _. ⌜ Cases ⌝ }
+{}

@@ -1,0 +1,308 @@
+// Stage two: the rules over the whole pool, in their order.
+ghost use mathlib.Core.Path.{_≡_};
+ghost use mathlib.Core.List.{map, []};
+ghost use Prim.Native.Nat.{_+_, _*_, _≤_, _<_};
+ghost use lib.ListN.{length, take};
+ghost use Rattle.pool.specs.Verdicts.{firstFault};
+ghost use Rattle.pool.specs.Fields.{numberOf, numbersAt, placesFrom, functionsFrom, functionsOf};
+ghost use Rattle.pool.specs.StageTwo.{objectOf, idOf, firstRepeat, numbersFault, isForbidden, characterRight, labelFault, absentFault, idsFault, statesFault, listsFault, judged, stageTwo};
+use crate::Verdict;
+use crate::fields::id_at;
+use crate::fields::kind_at;
+use crate::fields::size_at;
+use octets::byte_at;
+use octets::has_bit;
+use octets::u16_at;
+use octets::with_bit;
+
+// The places of a pool's objects, at the front: an object has 8 bytes at least, so a pool holds at most 2,048. The other cells are not read.
+struct Listed {
+    count: usize,
+    places: [u16; 2048],
+}
+
+fn list_places(s: &[u8]) -> Listed
+    requires { ⌜ length (now s) ≤ 16384 ⌝ }
+    ensures { λ r. ⌜ (r .count ≤ 2048) × (length (r .places) ≡ 2048) × (take (r .count) (r .places) ≡ placesFrom (now (s .entry)) 0) ⌝ }
+{
+    let mut places = [0u16; 2048];
+    let mut count: usize = 0;
+    let mut at: usize = 0;
+    while at < s.len() {
+        places[count] = at as u16;
+        count += 1;
+        at += size_at(s, at);
+    }
+    Listed { count, places }
+}
+
+// The place of the object of this number and type, and the pool's length where there is none.
+fn find_object(s: &[u8], ps: &[u16], kind: u8, n: u16) -> usize
+    requires { ⌜ (length (now s) ≤ 16384) × (length (now ps) ≤ 2048) ⌝ }
+    ensures { λ r. ⌜ (r ≡ objectOf (now (s .entry)) (now (ps .entry)) kind n) × (r < 65536) ⌝ }
+{
+    let mut k: usize = 0;
+    while k < ps.len() {
+        let p = ps[k] as usize;
+        let number = u16_at(s, p);
+        let found = kind_at(s, p);
+        if (number == n) & (found == kind) {
+            return p;
+        }
+        k += 1;
+    }
+    s.len()
+}
+
+// The number of each object, at the front.
+fn numbers_of(s: &[u8], ps: &[u16]) -> [u16; 2048]
+    requires { ⌜ length (now ps) ≤ 2048 ⌝ }
+    ensures { λ r. ⌜ take (length (now (ps .entry))) r ≡ map (numberOf (now (s .entry))) (now (ps .entry)) ⌝ }
+{
+    let mut numbers = [0u16; 2048];
+    let mut k: usize = 0;
+    while k < ps.len() {
+        let p = ps[k] as usize;
+        numbers[k] = u16_at(s, p);
+        k += 1;
+    }
+    numbers
+}
+
+// The ID of each object of this type in the list of count numbers at a place, at the front.
+fn ids_of(s: &[u8], ps: &[u16], kind: u8, at: usize, count: usize) -> [u16; 255]
+    requires { ⌜ (length (now s) ≤ 16384) × (length (now ps) ≤ 2048) × (at < 131072) × (count ≤ 255) ⌝ }
+    ensures { λ r. ⌜ take count r ≡ map (idOf (now (s .entry)) (now (ps .entry)) kind) (numbersAt 2 (now (s .entry)) at count) ⌝ }
+{
+    let mut ids = [0u16; 255];
+    let mut k: usize = 0;
+    while k < count {
+        let n = u16_at(s, at + 2 * k);
+        let p = find_object(s, ps, kind, n);
+        ids[k] = id_at(s, p) as u16;
+        k += 1;
+    }
+    ids
+}
+
+// Where the first key stands that stood before, and the number of keys where none did. A bit for each key that a u16 can hold.
+fn first_repeat(keys: &[u16]) -> usize
+    requires { ⌜ length (now keys) ≤ 2048 ⌝ }
+    ensures { λ r. ⌜ (r ≡ firstRepeat [] (now (keys .entry))) × (r ≤ length (now (keys .entry))) ⌝ }
+{
+    let mut seen = [0u64; 1024];
+    let mut k: usize = 0;
+    while k < keys.len() {
+        let key = keys[k];
+        let word = (key / 64) as usize;
+        let bit = (key % 64) as u64;
+        let bits = seen[word];
+        if has_bit(bits, bit) {
+            return k;
+        }
+        seen[word] = with_bit(bits, bit);
+        k += 1;
+    }
+    k
+}
+
+// 05.
+fn numbers_fault(s: &[u8], ps: &[u16]) -> Verdict
+    requires { ⌜ length (now ps) ≤ 2048 ⌝ }
+    ensures { λ r. ⌜ r ≡ numbersFault (now (s .entry)) (now (ps .entry)) ⌝ }
+{
+    let numbers = numbers_of(s, ps);
+    let n = ps.len();
+    let k = first_repeat(&numbers[..n]);
+    if k < n {
+        return Verdict {
+            code: 5,
+            object: numbers[k],
+        };
+    }
+    Verdict {
+        code: 0,
+        object: 65535,
+    }
+}
+
+// 06 for the functions of a base, type 1; 07 for the states of a function, type 2.
+fn ids_fault(s: &[u8], ps: &[u16], kind: u8, at: usize, count: usize) -> Verdict
+    requires { ⌜ (length (now s) ≤ 16384) × (length (now ps) ≤ 2048) × (kind ≤ 2) × (at < 131072) × (count ≤ 255) ⌝ }
+    ensures { λ r. ⌜ r ≡ idsFault (now (s .entry)) (now (ps .entry)) kind (numbersAt 2 (now (s .entry)) at count) ⌝ }
+{
+    let ids = ids_of(s, ps, kind, at, count);
+    let k = first_repeat(&ids[..count]);
+    if k < count {
+        return Verdict {
+            code: kind + 5,
+            object: u16_at(s, at + 2 * k),
+        };
+    }
+    Verdict {
+        code: 0,
+        object: 65535,
+    }
+}
+
+// The eleven characters that A.3 forbids.
+fn is_forbidden(c: u8) -> bool
+    ensures { λ r. ⌜ r ≡ isForbidden c ⌝ }
+{
+    (c == 92)
+        | (c == 34)
+        | (c == 39)
+        | (c == 96)
+        | (c == 47)
+        | (c == 58)
+        | (c == 42)
+        | (c == 60)
+        | (c == 62)
+        | (c == 124)
+        | (c == 63)
+}
+
+fn character_right(c: u8) -> bool
+    ensures { λ r. ⌜ r ≡ characterRight c ⌝ }
+{
+    (((32 <= c) & (c <= 126)) | (160 <= c)) & !is_forbidden(c)
+}
+
+// 0A.
+fn label_fault(s: &[u8], b: usize) -> Verdict
+    requires { ⌜ b < 65536 ⌝ }
+    ensures { λ r. ⌜ r ≡ labelFault (now (s .entry)) b ⌝ }
+{
+    let n = byte_at(s, b + 24) as usize;
+    let mut k: usize = 0;
+    while k < n {
+        if !character_right(byte_at(s, b + 27 + k)) {
+            return Verdict {
+                code: 10,
+                object: 0,
+            };
+        }
+        k += 1;
+    }
+    Verdict {
+        code: 0,
+        object: 65535,
+    }
+}
+
+// 03 for functions, type 1, and 04 for states, type 2: the first absent number of a list.
+fn absent_fault(s: &[u8], ps: &[u16], kind: u8, at: usize, count: usize) -> Verdict
+    requires { ⌜ (length (now s) ≤ 16384) × (length (now ps) ≤ 2048) × (kind ≤ 2) × (at < 131072) × (count ≤ 255) ⌝ }
+    ensures { λ r. ⌜ r ≡ firstFault (absentFault (now (s .entry)) (now (ps .entry)) kind) (numbersAt 2 (now (s .entry)) at count) ⌝ }
+{
+    let mut k: usize = 0;
+    while k < count {
+        let n = u16_at(s, at + 2 * k);
+        let p = find_object(s, ps, kind, n);
+        if s.len() <= p {
+            return Verdict {
+                code: kind + 2,
+                object: n,
+            };
+        }
+        k += 1;
+    }
+    Verdict {
+        code: 0,
+        object: 65535,
+    }
+}
+
+// 04 or 07 for the function of this number.
+fn states_fault(s: &[u8], ps: &[u16], code: u8, n: u16) -> Verdict
+    requires { ⌜ (length (now s) ≤ 16384) × (length (now ps) ≤ 2048) ⌝ }
+    ensures { λ r. ⌜ r ≡ statesFault (now (s .entry)) (now (ps .entry)) code n ⌝ }
+{
+    let p = find_object(s, ps, 1, n);
+    let count = byte_at(s, p + 29) as usize;
+    if code == 4 {
+        return absent_fault(s, ps, 2, p + 30, count);
+    }
+    ids_fault(s, ps, 2, p + 30, count)
+}
+
+// 04 or 07 for the functions in a list.
+fn functions_fault(s: &[u8], ps: &[u16], code: u8, at: usize, count: usize) -> Verdict
+    requires { ⌜ (length (now s) ≤ 16384) × (length (now ps) ≤ 2048) × (at < 131072) × (count ≤ 255) ⌝ }
+    ensures { λ r. ⌜ r ≡ firstFault (statesFault (now (s .entry)) (now (ps .entry)) code) (numbersAt 2 (now (s .entry)) at count) ⌝ }
+{
+    let mut k: usize = 0;
+    while k < count {
+        let n = u16_at(s, at + 2 * k);
+        let fault = states_fault(s, ps, code, n);
+        if fault.code != 0 {
+            return fault;
+        }
+        k += 1;
+    }
+    Verdict {
+        code: 0,
+        object: 65535,
+    }
+}
+
+// 03, 06, 04 and 07.
+fn lists_fault(s: &[u8], ps: &[u16], b: usize) -> Verdict
+    requires { ⌜ (length (now s) ≤ 16384) × (length (now ps) ≤ 2048) × (b < 65536) ⌝ }
+    ensures { λ r. ⌜ r ≡ listsFault (now (s .entry)) (now (ps .entry)) (functionsOf (now (s .entry)) b) ⌝ }
+{
+    let n = byte_at(s, b + 24) as usize;
+    let m = byte_at(s, b + 25) as usize;
+    let o = byte_at(s, b + 26) as usize;
+    let at = b + 27 + n + m;
+    let three = absent_fault(s, ps, 1, at, o);
+    if three.code != 0 {
+        return three;
+    }
+    let six = ids_fault(s, ps, 1, at, o);
+    if six.code != 0 {
+        return six;
+    }
+    let four = functions_fault(s, ps, 4, at, o);
+    if four.code != 0 {
+        return four;
+    }
+    functions_fault(s, ps, 7, at, o)
+}
+
+// The rules in their order: 02, 05, 0C, 0A, and those on the lists.
+fn judge(s: &[u8], ps: &[u16], b: usize) -> Verdict
+    requires { ⌜ (length (now s) ≤ 16384) × (length (now ps) ≤ 2048) × (b < 65536) ⌝ }
+    ensures { λ r. ⌜ r ≡ judged (now (s .entry)) (now (ps .entry)) b ⌝ }
+{
+    if s.len() <= b {
+        return Verdict { code: 2, object: 0 };
+    }
+    let five = numbers_fault(s, ps);
+    if five.code != 0 {
+        return five;
+    }
+    if byte_at(s, b + 3) != 2 {
+        return Verdict {
+            code: 12,
+            object: 0,
+        };
+    }
+    let ten = label_fault(s, b);
+    if ten.code != 0 {
+        return ten;
+    }
+    lists_fault(s, ps, b)
+}
+
+pub fn stage_two(s: &[u8]) -> Verdict
+    requires { ⌜ length (now s) ≤ 16384 ⌝ }
+    ensures { λ r. ⌜ r ≡ stageTwo (now (s .entry)) ⌝ }
+{
+    let listed = list_places(s);
+    let count = listed.count;
+    let places = listed.places;
+    let ps = &places[..count];
+    let b = find_object(s, ps, 0, 0);
+    judge(s, ps, b)
+}

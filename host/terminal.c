@@ -1,0 +1,45 @@
+/* A terminal to try and to copy: it hands pools to the library and says what it answers. */
+#include <stdio.h>
+#include <string.h>
+
+#include "scm.h"
+
+/* A base with one function, function 5, numbered 1: the least pool that is taken, 61 bytes. */
+static const uint8_t least[61] = {
+    /* base: number 0, type 0, version 2 */
+    0, 0, 0, 2,
+    /* master NAME, NAME mask */
+    13, 13, 13, 13, 13, 13, 13, 13, 255, 255, 255, 255, 255, 255, 255, 255,
+    /* name 1, picture 2, both labels of one byte, one function; the labels and the list */
+    1, 0, 2, 0, 1, 1, 1, 'A', 'B', 1, 0,
+    /* function: number 1, type 1, ID 5, preferred trigger 1 (time), style 00 */
+    1, 0, 1, 5, 1, 0,
+    /* minimum, maximum, offset, scale, decimals and unit are all one bits */
+    255, 255, 255, 255, 255, 255, 255, 255, 255, 255, 255, 255, 255, 255, 255, 255, 255, 255, 255,
+    /* name 3, picture 4, no state */
+    3, 0, 4, 0, 0,
+};
+
+static void check(const char *what, const uint8_t *pool, size_t length)
+{
+    scm_verdict v = scm_pool_check(pool, length);
+    printf("%-36s %02X %04X\n", what, v.code, v.object);
+}
+
+int main(void)
+{
+    uint8_t altered[sizeof least];
+
+    check("the least pool", least, sizeof least);
+    check("without its last byte", least, sizeof least - 1);
+    check("no bytes", least, 0);
+
+    memcpy(altered, least, sizeof least);
+    altered[27] = '?';
+    check("a version label with a question mark", altered, sizeof altered);
+
+    memcpy(altered, least, sizeof least);
+    altered[29] = 7;
+    check("a list that names object 7", altered, sizeof altered);
+    return 0;
+}

@@ -1,0 +1,30 @@
+/* The master (SCM) of ISO 11783-14, for a terminal's host in C. Link with libscm.a.
+
+   Every call takes all input: it never traps, and refuses bad input by a number of document 01. A pointer that is lent with a length points to
+   that many bytes; it is not NULL, even where the length is 0. */
+#ifndef SCM_H
+#define SCM_H
+
+#include <stddef.h>
+#include <stdint.h>
+
+#ifdef __cplusplus
+extern "C" {
+#endif
+
+/* ---- The pool */
+
+/* A code of D.9 and the number of the first faulty object. Success is code 0x00 and object 0xFFFF. */
+typedef struct scm_verdict {
+    uint8_t code;
+    uint16_t object;
+} scm_verdict;
+
+/* Judges any bytes at all as a client's pool; more than 16,384 bytes give 0xFF and 0xFFFF. Writes no memory. */
+scm_verdict scm_pool_check(const uint8_t *pool, size_t pool_len);
+
+#ifdef __cplusplus
+}
+#endif
+
+#endif
