@@ -26,6 +26,16 @@ static void check(const char *what, const uint8_t *pool, size_t length)
     printf("%-36s %02X %04X\n", what, v.code, v.object);
 }
 
+/* The recorded value is kept as it is; what the screen shows is made from it each time. */
+static void show(uint32_t value)
+{
+    double millimetres;
+
+    if (scm_shown(value, 0, 0.1f, &millimetres) == 0) {
+        printf("a depth of %u is shown as %.1f mm\n", (unsigned)value, millimetres);
+    }
+}
+
 int main(void)
 {
     uint8_t altered[sizeof least];
@@ -41,5 +51,8 @@ int main(void)
     memcpy(altered, least, sizeof least);
     altered[29] = 7;
     check("a list that names object 7", altered, sizeof altered);
+
+    show(240);
+    show(220);
     return 0;
 }

@@ -23,6 +23,25 @@ typedef struct scm_verdict {
 /* Judges any bytes at all as a client's pool; more than 16,384 bytes give 0xFF and 0xFFFF. Writes no memory. */
 scm_verdict scm_pool_check(const uint8_t *pool, size_t pool_len);
 
+/* ---- The shown value */
+
+/* The shown value, (value + offset) * scale: the sum exact, the product rounded once to a double, and exact where the sum is
+   below 2^29 in magnitude. Number 0, or 4 and value 0 where the scale is not finite and above zero. */
+typedef struct scm_shown_value {
+    uint8_t number;
+    double value;
+} scm_shown_value;
+
+scm_shown_value scm_shown_of(uint32_t value, int32_t offset, float scale);
+scm_shown_value scm_shown_bits(uint32_t value, int32_t offset, uint32_t scale);   /* the scale's 32 bits, as they stand in a pool */
+
+static inline uint8_t scm_shown(uint32_t value, int32_t offset, float scale, double *shown)
+{
+    scm_shown_value r = scm_shown_of(value, offset, scale);
+    *shown = r.value;
+    return r.number;
+}
+
 #ifdef __cplusplus
 }
 #endif

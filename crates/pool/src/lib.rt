@@ -1,8 +1,8 @@
 // The object pool of a client (ISO 11783-14, annex A): its objects, and the check that takes or refuses it with a code of D.9.
-mod fields;
-mod ranges;
-mod stage_one;
-mod stage_two;
+pub mod fields;
+pub mod ranges;
+pub mod stage_one;
+pub mod stage_two;
 
 ghost use mathlib.Core.Path.{_≡_};
 ghost use Rattle.pool.specs.Pool.{verdictOf};
