@@ -59,7 +59,7 @@ bytes-of-number (suc w) s i B h =
     rw (low, high, bytes-of-number w s (i + 1) B (omega arith), add-one i, drop-cons s i 0 (omega arith))
 
 -- what stands at a place, and after it, by what stands from there on
-here : (s : List ℕ) (i x : ℕ) (xs : List ℕ) → drop i s ≡ x ∷ xs → getD s i 0 ≡ x
+pub here : (s : List ℕ) (i x : ℕ) (xs : List ℕ) → drop i s ≡ x ∷ xs → getD s i 0 ≡ x
 here s i x xs e =
     let z : i ≡ i + 0 = omega arith in
     ap (λ (j : ℕ). getD s j 0) z ∙ sym (getD-drop i s 0 0) ∙ ap (λ (l : List ℕ). getD l 0 0) e

@@ -2,3 +2,4 @@ pub mod Walk
 pub mod Faults
 pub mod Lists
 pub mod Repeats
+pub mod Index

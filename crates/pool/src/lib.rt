@@ -15,6 +15,12 @@ pub struct Verdict {
     pub object: u16,
 }
 
+// "Success is 00, object FFFF."
+pub const FINE: Verdict = Verdict {
+    code: 0,
+    object: 65535,
+};
+
 // The fixed part of a base: table A.1, bytes 1 to 27. n and m are the labels' lengths, o the number of functions listed.
 pub struct BaseHead {
     pub number: u16,

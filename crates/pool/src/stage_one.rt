@@ -3,6 +3,7 @@ ghost use mathlib.Core.Path.{_≡_};
 ghost use Prim.Native.Nat.{_≤_, _<_};
 ghost use lib.ListN.{length};
 ghost use Rattle.pool.specs.StageOne.{restCode, labelCode, codeAt, nameAt, stageOne};
+use crate::FINE;
 use crate::Verdict;
 use crate::fields::fixed_of;
 use crate::fields::head_at;
@@ -88,8 +89,5 @@ pub fn stage_one(s: &[u8]) -> Verdict
         }
         at += size_at(s, at);
     }
-    Verdict {
-        code: 0,
-        object: 65535,
-    }
+    FINE
 }

@@ -5,7 +5,9 @@ ghost use Prim.Native.Nat.{_+_, _*_, _≤_, _<_};
 ghost use lib.ListN.{length, take};
 ghost use Rattle.pool.specs.Verdicts.{firstFault};
 ghost use Rattle.pool.specs.Fields.{numberOf, numbersAt, placesFrom, functionsFrom, functionsOf};
+ghost use Rattle.pool.specs.Index.{Indexed};
 ghost use Rattle.pool.specs.StageTwo.{objectOf, idOf, firstRepeat, numbersFault, isForbidden, characterRight, labelFault, absentFault, idsFault, statesFault, listsFault, judged, stageTwo};
+use crate::FINE;
 use crate::Verdict;
 use crate::fields::id_at;
 use crate::fields::kind_at;
@@ -36,20 +38,40 @@ fn list_places(s: &[u8]) -> Listed
     Listed { count, places }
 }
 
-// The place of the object of this number and type, and the pool's length where there is none.
-fn find_object(s: &[u8], ps: &[u16], kind: u8, n: u16) -> usize
+// The chains of the objects whose numbers agree modulo 1,024, built from the last object to the first: which object is the first of each
+// chain, and after 1,024 cells which is the next after each; 2,048 ends a chain.
+fn chain_of(s: &[u8], ps: &[u16]) -> [u16; 3072]
     requires { ⌜ (length (now s) ≤ 16384) × (length (now ps) ≤ 2048) ⌝ }
+    ensures { λ r. ⌜ Indexed (now (s .entry)) (now (ps .entry)) r ⌝ }
+{
+    let mut chain = [2048u16; 3072];
+    let mut k = ps.len();
+    while 0 < k {
+        k -= 1;
+        let p = ps[k] as usize;
+        let b = (u16_at(s, p) % 1024) as usize;
+        let next = chain[b];
+        chain[1024 + k] = next;
+        chain[b] = k as u16;
+    }
+    chain
+}
+
+// The place of the object of this number and type, and the pool's length where there is none.
+fn find_object(s: &[u8], ps: &[u16], chain: &[u16], kind: u8, n: u16) -> usize
+    requires { ⌜ Indexed (now s) (now ps) (now chain) ⌝ }
     ensures { λ r. ⌜ (r ≡ objectOf (now (s .entry)) (now (ps .entry)) kind n) × (r < 65536) ⌝ }
 {
-    let mut k: usize = 0;
-    while k < ps.len() {
-        let p = ps[k] as usize;
+    let b = (n % 1024) as usize;
+    let mut i = chain[b] as usize;
+    while i < ps.len() {
+        let p = ps[i] as usize;
         let number = u16_at(s, p);
         let found = kind_at(s, p);
         if (number == n) & (found == kind) {
             return p;
         }
-        k += 1;
+        i = chain[1024 + i] as usize;
     }
     s.len()
 }
@@ -70,15 +92,15 @@ fn numbers_of(s: &[u8], ps: &[u16]) -> [u16; 2048]
 }
 
 // The ID of each object of this type in the list of count numbers at a place, at the front.
-fn ids_of(s: &[u8], ps: &[u16], kind: u8, at: usize, count: usize) -> [u16; 255]
-    requires { ⌜ (length (now s) ≤ 16384) × (length (now ps) ≤ 2048) × (at < 131072) × (count ≤ 255) ⌝ }
+fn ids_of(s: &[u8], ps: &[u16], chain: &[u16], kind: u8, at: usize, count: usize) -> [u16; 255]
+    requires { ⌜ Indexed (now s) (now ps) (now chain) × (at < 131072) × (count ≤ 255) ⌝ }
     ensures { λ r. ⌜ take count r ≡ map (idOf (now (s .entry)) (now (ps .entry)) kind) (numbersAt 2 (now (s .entry)) at count) ⌝ }
 {
     let mut ids = [0u16; 255];
     let mut k: usize = 0;
     while k < count {
         let n = u16_at(s, at + 2 * k);
-        let p = find_object(s, ps, kind, n);
+        let p = find_object(s, ps, chain, kind, n);
         ids[k] = id_at(s, p) as u16;
         k += 1;
     }
@@ -120,18 +142,15 @@ fn numbers_fault(s: &[u8], ps: &[u16]) -> Verdict
             object: numbers[k],
         };
     }
-    Verdict {
-        code: 0,
-        object: 65535,
-    }
+    FINE
 }
 
 // 06 for the functions of a base, type 1; 07 for the states of a function, type 2.
-fn ids_fault(s: &[u8], ps: &[u16], kind: u8, at: usize, count: usize) -> Verdict
-    requires { ⌜ (length (now s) ≤ 16384) × (length (now ps) ≤ 2048) × (kind ≤ 2) × (at < 131072) × (count ≤ 255) ⌝ }
+fn ids_fault(s: &[u8], ps: &[u16], chain: &[u16], kind: u8, at: usize, count: usize) -> Verdict
+    requires { ⌜ Indexed (now s) (now ps) (now chain) × (kind ≤ 2) × (at < 131072) × (count ≤ 255) ⌝ }
     ensures { λ r. ⌜ r ≡ idsFault (now (s .entry)) (now (ps .entry)) kind (numbersAt 2 (now (s .entry)) at count) ⌝ }
 {
-    let ids = ids_of(s, ps, kind, at, count);
+    let ids = ids_of(s, ps, chain, kind, at, count);
     let k = first_repeat(&ids[..count]);
     if k < count {
         return Verdict {
@@ -139,10 +158,7 @@ fn ids_fault(s: &[u8], ps: &[u16], kind: u8, at: usize, count: usize) -> Verdict
             object: u16_at(s, at + 2 * k),
         };
     }
-    Verdict {
-        code: 0,
-        object: 65535,
-    }
+    FINE
 }
 
 // The eleven characters that A.3 forbids.
@@ -184,21 +200,18 @@ fn label_fault(s: &[u8], b: usize) -> Verdict
         }
         k += 1;
     }
-    Verdict {
-        code: 0,
-        object: 65535,
-    }
+    FINE
 }
 
 // 03 for functions, type 1, and 04 for states, type 2: the first absent number of a list.
-fn absent_fault(s: &[u8], ps: &[u16], kind: u8, at: usize, count: usize) -> Verdict
-    requires { ⌜ (length (now s) ≤ 16384) × (length (now ps) ≤ 2048) × (kind ≤ 2) × (at < 131072) × (count ≤ 255) ⌝ }
+fn absent_fault(s: &[u8], ps: &[u16], chain: &[u16], kind: u8, at: usize, count: usize) -> Verdict
+    requires { ⌜ Indexed (now s) (now ps) (now chain) × (kind ≤ 2) × (at < 131072) × (count ≤ 255) ⌝ }
     ensures { λ r. ⌜ r ≡ firstFault (absentFault (now (s .entry)) (now (ps .entry)) kind) (numbersAt 2 (now (s .entry)) at count) ⌝ }
 {
     let mut k: usize = 0;
     while k < count {
         let n = u16_at(s, at + 2 * k);
-        let p = find_object(s, ps, kind, n);
+        let p = find_object(s, ps, chain, kind, n);
         if s.len() <= p {
             return Verdict {
                 code: kind + 2,
@@ -207,72 +220,73 @@ fn absent_fault(s: &[u8], ps: &[u16], kind: u8, at: usize, count: usize) -> Verd
         }
         k += 1;
     }
-    Verdict {
-        code: 0,
-        object: 65535,
-    }
+    FINE
 }
 
 // 04 or 07 for the function of this number.
-fn states_fault(s: &[u8], ps: &[u16], code: u8, n: u16) -> Verdict
-    requires { ⌜ (length (now s) ≤ 16384) × (length (now ps) ≤ 2048) ⌝ }
+fn states_fault(s: &[u8], ps: &[u16], chain: &[u16], code: u8, n: u16) -> Verdict
+    requires { ⌜ Indexed (now s) (now ps) (now chain) ⌝ }
     ensures { λ r. ⌜ r ≡ statesFault (now (s .entry)) (now (ps .entry)) code n ⌝ }
 {
-    let p = find_object(s, ps, 1, n);
+    let p = find_object(s, ps, chain, 1, n);
     let count = byte_at(s, p + 29) as usize;
     if code == 4 {
-        return absent_fault(s, ps, 2, p + 30, count);
+        return absent_fault(s, ps, chain, 2, p + 30, count);
     }
-    ids_fault(s, ps, 2, p + 30, count)
+    ids_fault(s, ps, chain, 2, p + 30, count)
 }
 
 // 04 or 07 for the functions in a list.
-fn functions_fault(s: &[u8], ps: &[u16], code: u8, at: usize, count: usize) -> Verdict
-    requires { ⌜ (length (now s) ≤ 16384) × (length (now ps) ≤ 2048) × (at < 131072) × (count ≤ 255) ⌝ }
+fn functions_fault(
+    s: &[u8],
+    ps: &[u16],
+    chain: &[u16],
+    code: u8,
+    at: usize,
+    count: usize,
+) -> Verdict
+    requires { ⌜ Indexed (now s) (now ps) (now chain) × (at < 131072) × (count ≤ 255) ⌝ }
     ensures { λ r. ⌜ r ≡ firstFault (statesFault (now (s .entry)) (now (ps .entry)) code) (numbersAt 2 (now (s .entry)) at count) ⌝ }
 {
     let mut k: usize = 0;
     while k < count {
         let n = u16_at(s, at + 2 * k);
-        let fault = states_fault(s, ps, code, n);
+        let fault = states_fault(s, ps, chain, code, n);
         if fault.code != 0 {
             return fault;
         }
         k += 1;
     }
-    Verdict {
-        code: 0,
-        object: 65535,
-    }
+    FINE
 }
 
 // 03, 06, 04 and 07.
-fn lists_fault(s: &[u8], ps: &[u16], b: usize) -> Verdict
-    requires { ⌜ (length (now s) ≤ 16384) × (length (now ps) ≤ 2048) × (b < 65536) ⌝ }
+fn lists_fault(s: &[u8], ps: &[u16], chain: &[u16], b: usize) -> Verdict
+    requires { ⌜ Indexed (now s) (now ps) (now chain) × (b < 65536) ⌝ }
     ensures { λ r. ⌜ r ≡ listsFault (now (s .entry)) (now (ps .entry)) (functionsOf (now (s .entry)) b) ⌝ }
 {
     let n = byte_at(s, b + 24) as usize;
     let m = byte_at(s, b + 25) as usize;
     let o = byte_at(s, b + 26) as usize;
     let at = b + 27 + n + m;
-    let three = absent_fault(s, ps, 1, at, o);
+    let three = absent_fault(s, ps, chain, 1, at, o);
     if three.code != 0 {
         return three;
     }
-    let six = ids_fault(s, ps, 1, at, o);
+    let six = ids_fault(s, ps, chain, 1, at, o);
     if six.code != 0 {
         return six;
     }
-    let four = functions_fault(s, ps, 4, at, o);
+    let four = functions_fault(s, ps, chain, 4, at, o);
     if four.code != 0 {
         return four;
     }
-    functions_fault(s, ps, 7, at, o)
+    functions_fault(s, ps, chain, 7, at, o)
 }
 
 // The rules in their order: 02, 05, 0C, 0A, and those on the lists.
-fn judge(s: &[u8], ps: &[u16], b: usize) -> Verdict
-    requires { ⌜ (length (now s) ≤ 16384) × (length (now ps) ≤ 2048) × (b < 65536) ⌝ }
+fn judge(s: &[u8], ps: &[u16], chain: &[u16], b: usize) -> Verdict
+    requires { ⌜ Indexed (now s) (now ps) (now chain) × (b < 65536) ⌝ }
     ensures { λ r. ⌜ r ≡ judged (now (s .entry)) (now (ps .entry)) b ⌝ }
 {
     if s.len() <= b {
@@ -292,7 +306,7 @@ fn judge(s: &[u8], ps: &[u16], b: usize) -> Verdict
     if ten.code != 0 {
         return ten;
     }
-    lists_fault(s, ps, b)
+    lists_fault(s, ps, chain, b)
 }
 
 pub fn stage_two(s: &[u8]) -> Verdict
@@ -303,6 +317,8 @@ pub fn stage_two(s: &[u8]) -> Verdict
     let count = listed.count;
     let places = listed.places;
     let ps = &places[..count];
-    let b = find_object(s, ps, 0, 0);
-    judge(s, ps, b)
+    let index = chain_of(s, ps);
+    let chain = &index[..3072];
+    let b = find_object(s, ps, chain, 0, 0);
+    judge(s, ps, chain, b)
 }

@@ -6,6 +6,7 @@ use mathlib.Core.Path.{_≡_, refl, sym, _∙_}
 use lib.ListN.{length, getD, drop}
 use denote.Ref.{now}
 use borrow.Author.Tests.{le-leb, lt-leb}
+use borrow.Author.Needs.{needs}
 use Rattle.octets.specs.Pick.{pick}
 use Rattle.pool.specs.Verdicts.{verdict, fine, firstFault}
 use Rattle.pool.specs.Fields.{numbersAt}
@@ -16,11 +17,11 @@ use Rattle.pool.proofs.stage_two.absent_fault.Statement.{statement}
 use Rattle.pool.proofs.stage_two.absent_fault.Tie as tie
 
 abbrev Inv-loop : tie.InvT-loop
-Inv-loop s ps kind at count k₀ k =
+Inv-loop s ps chain kind at count k₀ k =
     firstFault (absentFault s ps kind) (numbersAt 2 s at count) ≡ firstFault (absentFault s ps kind) (drop k (numbersAt 2 s at count))
 
 abbrev μ-loop : tie.MeasureT-loop
-μ-loop s ps kind at count k₀ k = count - k
+μ-loop s ps chain kind at count k₀ k = count - k
 
 returns : tie.Need-returns Inv-loop μ-loop
 unfolding absentFault pick
@@ -28,7 +29,7 @@ returns c =
     let at-number = c .before .before in
     let at-loop = at-number .before .before in
     let i = at-loop .loop in
-    let a = at-loop .before .before .before .args in
+    let a = at-loop .before .before .before .before .args in
     let s = now (a .s) in
     let l = numbersAt 2 s (a .at) (a .count) in
     let n : getD l (i .k) 0 ≡ at-number .u16-at .result = number-in 2 s (a .at) (a .count) (i .k) (omega arith) ∙ sym (at-number .u16-at .ensures) in
@@ -42,7 +43,7 @@ loop-again c =
     let at-number = c .before .before in
     let at-loop = at-number .before .before in
     let i = at-loop .loop in
-    let a = at-loop .before .before .before .args in
+    let a = at-loop .before .before .before .before .args in
     let s = now (a .s) in
     let l = numbersAt 2 s (a .at) (a .count) in
     let n : getD l (i .k) 0 ≡ at-number .u16-at .result = number-in 2 s (a .at) (a .count) (i .k) (omega arith) ∙ sym (at-number .u16-at .ensures) in
@@ -52,7 +53,7 @@ loop-again c =
 returns-2 : tie.Need-returns-2 Inv-loop μ-loop
 returns-2 c =
     let i = c .before .loop in
-    let a = c .before .before .before .before .args in
+    let a = c .before .before .before .before .before .args in
     let s = now (a .s) in
     sym (i .inv ∙ fault-end (absentFault s (now (a .ps)) (a .kind)) (numbersAt 2 s (a .at) (a .count)) (i .k) (omega (arith, length-numbers 2 s (a .at) (a .count))))
 
@@ -66,7 +67,7 @@ absent-fault-spec =
     (λ c. omega arith)
     (λ c. omega arith)
     (λ c κs. omega arith)
-    (λ c κs. omega arith)
+    (λ c κs. search needs)
     (λ c. omega arith)
     returns
     (λ c. omega arith)

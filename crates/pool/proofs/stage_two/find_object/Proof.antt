@@ -1,61 +1,92 @@
--- `pool::stage_two::find_object` meets its contract. The loop's invariant: the first such object is the first from here.
--- The measure is what is left of the places. Assumes nothing.
-use Prim.Native.Nat.{_-_, _<_}
+-- `pool::stage_two::find_object` meets its contract. The loop's invariant: the first such object is the first from here, and here is in its
+-- number's chain. The measure is what is left of the places. Assumes nothing.
+use Prim.Native.Nat.{_+_, _-_, _%_, _<_}
 use native.Mathlib.Omega.{arith}
-use mathlib.Core.Path.{_≡_, refl, sym, _∙_}
+use mathlib.Core.Path.{_≡_, sym, _∙_}
 use mathlib.Core.Bool.{true, false}
 use lib.ListN.{length, getD, drop}
 use denote.Ref.{now}
 use borrow.Author.Needs.{needs}
+use Rattle.pool.specs.Index.{inChain}
 use Rattle.pool.specs.StageTwo.{find, isObject, objectOf}
-use Rattle.pool.proofs.Lists.{find-end, find-here, find-next}
+use Rattle.pool.proofs.Lists.{find-end, find-here}
+use Rattle.pool.proofs.Index.{chain-start, chain-later, chain-next}
 use Rattle.pool.proofs.stage_two.find_object.Statement.{statement}
 use Rattle.pool.proofs.stage_two.find_object.Tie as tie
 
 abbrev Inv-loop : tie.InvT-loop
-Inv-loop s ps kind n k₀ k = find (isObject s kind n) ps (length s) ≡ find (isObject s kind n) (drop k ps) (length s)
+Inv-loop s ps chain kind n b i₀ i =
+    (find (isObject s kind n) ps (length s) ≡ find (isObject s kind n) (drop i ps) (length s)) × (i < length ps → inChain s (n % 1024) (getD ps i 0) ≡ true)
 
 abbrev μ-loop : tie.MeasureT-loop
-μ-loop s ps kind n k₀ k = length ps - k
+μ-loop s ps chain kind n b i₀ i = length ps - i
 
--- the element read is a number of 16 bits
+-- the elements read are numbers of 16 bits
+cast-i : tie.Need-cast-i Inv-loop μ-loop
+cast-i c = omega (arith, c .shared-slice-known4 .given (c .before .before .before .before .args .n % 1024))
+
+loop-holds : tie.Need-loop-holds Inv-loop μ-loop
+loop-holds c =
+    let at-start = c .before .before .before .before in
+    let a = at-start .args in
+    let o = chain-start (now (a .s)) (now (a .ps)) (now (a .chain)) (at-start .pre) (a .kind) (a .n) in
+    (o .same, o .holds)
+
 cast-p : tie.Need-cast-p Inv-loop μ-loop
-cast-p c = omega (arith, c .shared-slice-known3 .given (c .before .before .loop .k))
+cast-p c = omega (arith, c .shared-slice-known5 .given (c .before .before .loop .i))
 
 u16-at-requires : tie.Need-u16-at-requires Inv-loop μ-loop
-u16-at-requires c κs = omega (arith, c .shared-slice-known3 .given (c .before .before .loop .k))
+u16-at-requires c κs = omega (arith, c .shared-slice-known5 .given (c .before .before .loop .i))
 
 kind-at-requires : tie.Need-kind-at-requires Inv-loop μ-loop
-kind-at-requires c κs = omega (arith, c .before .shared-slice-known3 .given (c .before .before .before .loop .k))
+kind-at-requires c κs = omega (arith, c .before .shared-slice-known5 .given (c .before .before .before .loop .i))
 
 returns : tie.Need-returns Inv-loop μ-loop
 unfolding isObject objectOf
 returns c =
     let at-number = c .before .before in
     let at-loop = at-number .before .before .before in
-    let a = at-loop .before .before .before .args in
-    let e : isObject (now (a .s)) (a .kind) (a .n) (getD (now (a .ps)) (at-loop .loop .k) 0) ≡ true =
+    let i = at-loop .loop in
+    let a = at-loop .before .before .before .before .before .args in
+    let e : isObject (now (a .s)) (a .kind) (a .n) (getD (now (a .ps)) (i .i) 0) ≡ true =
     simp (← at-number .u16-at .ensures, ← c .before .kind-at .ensures) (c .if1 .taken) in (
-      sym (at-loop .loop .inv ∙ find-here (isObject (now (a .s)) (a .kind) (a .n)) (now (a .ps)) (length (now (a .s))) (at-loop .loop .k) (omega arith) e),
-      omega (arith, at-number .before .shared-slice-known3 .given (at-loop .loop .k)),
+      sym (i .inv .0 ∙ find-here (isObject (now (a .s)) (a .kind) (a .n)) (now (a .ps)) (length (now (a .s))) (i .i) (omega arith) e),
+      omega (arith, at-number .before .shared-slice-known5 .given (i .i)),
     )
+
+cast-i-2 : tie.Need-cast-i-2 Inv-loop μ-loop
+cast-i-2 c =
+    let at-loop = c .before .before .before .before .before .before in
+    omega (arith, c .shared-slice-known6 .given (1024 + at-loop .loop .i))
+
+loop-less : tie.Need-loop-less Inv-loop μ-loop
+loop-less c =
+    let at-loop = c .before .before .before .before .before .before in
+    let i = at-loop .loop in
+    let at-start = at-loop .before .before .before .before .before in
+    let a = at-start .args in
+    omega (arith, chain-later (now (a .s)) (now (a .ps)) (now (a .chain)) (at-start .pre) (a .kind) (a .n) (i .i) (omega arith) (record { same = i .inv .0; holds = i .inv .1 }))
 
 loop-again : tie.Need-loop-again Inv-loop μ-loop
 unfolding isObject
 loop-again c =
-    let at-number = c .before .before in
+    let at-else = c .before in
+    let at-number = at-else .before .before in
     let at-loop = at-number .before .before .before in
-    let a = at-loop .before .before .before .args in
-    let e : isObject (now (a .s)) (a .kind) (a .n) (getD (now (a .ps)) (at-loop .loop .k) 0) ≡ false =
-    simp (← at-number .u16-at .ensures, ← c .before .kind-at .ensures) (c .if1 .left) in
-    at-loop .loop .inv ∙ find-next (isObject (now (a .s)) (a .kind) (a .n)) (now (a .ps)) (length (now (a .s))) (at-loop .loop .k) (omega arith) e
+    let i = at-loop .loop in
+    let at-start = at-loop .before .before .before .before .before in
+    let a = at-start .args in
+    let e : isObject (now (a .s)) (a .kind) (a .n) (getD (now (a .ps)) (i .i) 0) ≡ false =
+    simp (← at-number .u16-at .ensures, ← at-else .before .kind-at .ensures) (at-else .if1 .left) in
+    let o = chain-next (now (a .s)) (now (a .ps)) (now (a .chain)) (at-start .pre) (a .kind) (a .n) (i .i) (omega arith) (record { same = i .inv .0; holds = i .inv .1 }) e in
+    (o .same, o .holds)
 
 returns-2 : tie.Need-returns-2 Inv-loop μ-loop
 unfolding objectOf
 returns-2 c =
-    let at-loop = c .before in
-    let a = at-loop .before .before .before .args in (
-      sym (at-loop .loop .inv ∙ find-end (isObject (now (a .s)) (a .kind) (a .n)) (now (a .ps)) (length (now (a .s))) (at-loop .loop .k) (omega arith)),
+    let i = c .before .loop in
+    let a = c .before .before .before .before .before .before .args in (
+      sym (i .inv .0 ∙ find-end (isObject (now (a .s)) (a .kind) (a .n)) (now (a .ps)) (length (now (a .s))) (i .i) (omega arith)),
       omega arith,
     )
 
@@ -65,7 +96,11 @@ find-object-spec =
     (tie.spec
     Inv-loop
     μ-loop
-    (λ c. refl)
+    (λ c. search needs)
+    (λ c. omega arith)
+    (λ c. omega arith)
+    cast-i
+    loop-holds
     (λ c. omega arith)
     (λ c. omega arith)
     cast-p
@@ -74,5 +109,8 @@ find-object-spec =
     returns
     (λ c. omega arith)
     (λ c. omega arith)
+    (λ c. omega arith)
+    cast-i-2
+    loop-less
     loop-again
     returns-2)

@@ -5,6 +5,7 @@ use native.Mathlib.Omega.{arith}
 use mathlib.Core.Path.{_≡_, refl, sym, ap, _∙_}
 use lib.ListN.{getD, drop}
 use denote.Ref.{now}
+use borrow.Author.Needs.{needs}
 use Rattle.pool.specs.Verdicts.{firstFault}
 use Rattle.pool.specs.Fields.{numbersAt}
 use Rattle.pool.specs.StageTwo.{statesFault}
@@ -14,11 +15,11 @@ use Rattle.pool.proofs.stage_two.functions_fault.Statement.{statement}
 use Rattle.pool.proofs.stage_two.functions_fault.Tie as tie
 
 abbrev Inv-loop : tie.InvT-loop
-Inv-loop s ps code at count k₀ k =
+Inv-loop s ps chain code at count k₀ k =
     firstFault (statesFault s ps code) (numbersAt 2 s at count) ≡ firstFault (statesFault s ps code) (drop k (numbersAt 2 s at count))
 
 abbrev μ-loop : tie.MeasureT-loop
-μ-loop s ps code at count k₀ k = count - k
+μ-loop s ps chain code at count k₀ k = count - k
 
 returns : tie.Need-returns Inv-loop μ-loop
 returns c =
@@ -26,7 +27,7 @@ returns c =
     let at-number = at-fault .before in
     let at-loop = at-number .before .before in
     let i = at-loop .loop in
-    let a = at-loop .before .before .before .args in
+    let a = at-loop .before .before .before .before .args in
     let s = now (a .s) in
     let l = numbersAt 2 s (a .at) (a .count) in
     let f = statesFault s (now (a .ps)) (a .code) in
@@ -39,7 +40,7 @@ loop-again c =
     let at-number = at-fault .before in
     let at-loop = at-number .before .before in
     let i = at-loop .loop in
-    let a = at-loop .before .before .before .args in
+    let a = at-loop .before .before .before .before .args in
     let s = now (a .s) in
     let l = numbersAt 2 s (a .at) (a .count) in
     let f = statesFault s (now (a .ps)) (a .code) in
@@ -49,7 +50,7 @@ loop-again c =
 returns-2 : tie.Need-returns-2 Inv-loop μ-loop
 returns-2 c =
     let i = c .before .loop in
-    let a = c .before .before .before .before .args in
+    let a = c .before .before .before .before .before .args in
     let s = now (a .s) in
     sym (i .inv ∙ fault-end (statesFault s (now (a .ps)) (a .code)) (numbersAt 2 s (a .at) (a .count)) (i .k) (omega (arith, length-numbers 2 s (a .at) (a .count))))
 
@@ -63,7 +64,7 @@ functions-fault-spec =
     (λ c. omega arith)
     (λ c. omega arith)
     (λ c κs. omega arith)
-    (λ c κs. omega arith)
+    (λ c κs. search needs)
     returns
     (λ c. omega arith)
     (λ c. omega arith)

@@ -17,7 +17,7 @@ use Rattle.pool.proofs.stage_two.ids_fault.Tie as tie
 
 slice-aggregate-first-repeat : tie.Need-slice-aggregate-first-repeat
 slice-aggregate-first-repeat c =
-    let a = c .before .before .before .before .args in
+    let a = c .before .before .before .before .before .args in
     sym (ap length (c .before .ids-of .ensures) ∙ simp (length-map) (length-numbers 2 (now (a .s)) (a .at) (a .count)))
 
 first-repeat-requires : tie.Need-first-repeat-requires
@@ -28,7 +28,7 @@ unfolding idsFault
 returns c =
     let at-repeat = c .before .before in
     let at-ids = at-repeat .before .before in
-    let a = at-ids .before .before .before .args in
+    let a = at-ids .before .before .before .before .args in
     let s = now (a .s) in
     let names = numbersAt 2 s (a .at) (a .count) in
     let keys = map (idOf s (now (a .ps)) (a .kind)) names in
@@ -42,7 +42,7 @@ unfolding idsFault
 returns-2 c =
     let at-repeat = c .before in
     let at-ids = at-repeat .before .before in
-    let a = at-ids .before .before .before .args in
+    let a = at-ids .before .before .before .before .args in
     let s = now (a .s) in
     let names = numbersAt 2 s (a .at) (a .count) in
     let keys = map (idOf s (now (a .ps)) (a .kind)) names in

@@ -14,11 +14,11 @@ use Rattle.pool.proofs.stage_two.ids_of.Statement.{statement}
 use Rattle.pool.proofs.stage_two.ids_of.Tie as tie
 
 abbrev Inv-loop : tie.InvT-loop
-Inv-loop s ps kind at count ids₀ k₀ ids k =
+Inv-loop s ps chain kind at count ids₀ k₀ ids k =
     (k ≤ count) × (take k ids ≡ take k (map (idOf s ps kind) (numbersAt 2 s at count))) × (length ids ≡ 255)
 
 abbrev μ-loop : tie.MeasureT-loop
-μ-loop s ps kind at count ids₀ k₀ ids k = count - k
+μ-loop s ps chain kind at count ids₀ k₀ ids k = count - k
 
 loop-holds : tie.Need-loop-holds Inv-loop μ-loop
 loop-holds c = (omega arith, refl, refl)
@@ -30,7 +30,7 @@ loop-again c =
     let at-number = at-find .before in
     let at-loop = at-number .before .before in
     let i = at-loop .loop in
-    let a = at-loop .before .before .before .args in
+    let a = at-loop .before .before .before .before .args in
     let s = now (a .s) in
     let l = numbersAt 2 s (a .at) (a .count) in
     let n : at-number .u16-at .result ≡ getD l (i .k) 0 = at-number .u16-at .ensures ∙ sym (number-in 2 s (a .at) (a .count) (i .k) (omega arith)) in
@@ -43,7 +43,7 @@ loop-again c =
 returns : tie.Need-returns Inv-loop μ-loop
 returns c =
     let i = c .before .loop in
-    let a = c .before .before .before .before .args in
+    let a = c .before .before .before .before .before .args in
     let s = now (a .s) in
     gathered (idOf s (now (a .ps)) (a .kind)) (numbersAt 2 s (a .at) (a .count)) (i .ids) (i .k) (a .count) (omega arith) (omega arith) (length-numbers 2 s (a .at) (a .count)) (i .inv .1)
 
@@ -57,7 +57,7 @@ ids-of-spec =
     (λ c. omega arith)
     (λ c. omega arith)
     (λ c κs. omega arith)
-    (λ c κs. omega arith)
+    (λ c κs. search needs)
     (λ c κs. omega arith)
     (λ c. search needs)
     (λ c. omega arith)

@@ -50,6 +50,13 @@ returns-3 c =
       ne-eqb _ _ (c .if3 .taken),
     )
 
+functions-fault-requires : tie.Need-functions-fault-requires
+functions-fault-requires c κs = search needs
+
+-- the second call asks what the first one asked
+functions-fault-requires-2 : tie.Need-functions-fault-requires-2
+functions-fault-requires-2 c κs = functions-fault-requires (c .before .before .before) κs
+
 returns-4 : tie.Need-returns-4
 unfolding listsFault first pick
 returns-4 c =
@@ -77,4 +84,4 @@ lists-fault-spec =
     (λ c. search needs) (λ c κs. search needs) (λ c. search needs) (λ c. search needs) (λ c κs. search needs)
     (λ c. search needs) (λ c. search needs) (λ c κs. search needs) (λ c. search needs) (λ c. search needs)
     (λ c. search needs) (λ c. search needs) (λ c κs. search needs) returns (λ c κs. search needs) returns-2
-    (λ c κs. search needs) returns-3 (λ c κs. search needs) returns-4)
+    functions-fault-requires returns-3 functions-fault-requires-2 returns-4)
