@@ -1,3 +1,4 @@
 pub mod Tests
 pub mod Laws
 pub mod BitLaws
+pub mod Cells

@@ -1,3 +1,4 @@
 pub mod Pick
 pub mod Octets
 pub mod Bits
+pub mod Label

@@ -7,6 +7,8 @@ ghost use lib.Seq.{sets};
 ghost use Rattle.octets.specs.Octets.{numberAt, bytesOf};
 ghost use Rattle.octets.specs.Bits.{hasBit, withBit};
 
+pub mod label;
+
 pub fn byte_at(s: &[u8], i: usize) -> u8
     ensures { λ r. ⌜ r ≡ getD (now (s .entry)) i 0 ⌝ }
 {

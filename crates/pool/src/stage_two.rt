@@ -18,12 +18,12 @@ use octets::u16_at;
 use octets::with_bit;
 
 // The places of a pool's objects, at the front: an object has 8 bytes at least, so a pool holds at most 2,048. The other cells are not read.
-struct Listed {
-    count: usize,
-    places: [u16; 2048],
+pub struct Listed {
+    pub count: usize,
+    pub places: [u16; 2048],
 }
 
-fn list_places(s: &[u8]) -> Listed
+pub fn list_places(s: &[u8]) -> Listed
     requires { ⌜ length (now s) ≤ 16384 ⌝ }
     ensures { λ r. ⌜ (r .count ≤ 2048) × (length (r .places) ≡ 2048) × (take (r .count) (r .places) ≡ placesFrom (now (s .entry)) 0) ⌝ }
 {
@@ -40,7 +40,7 @@ fn list_places(s: &[u8]) -> Listed
 
 // The chains of the objects whose numbers agree modulo 1,024, built from the last object to the first: which object is the first of each
 // chain, and after 1,024 cells which is the next after each; 2,048 ends a chain.
-fn chain_of(s: &[u8], ps: &[u16]) -> [u16; 3072]
+pub fn chain_of(s: &[u8], ps: &[u16]) -> [u16; 3072]
     requires { ⌜ (length (now s) ≤ 16384) × (length (now ps) ≤ 2048) ⌝ }
     ensures { λ r. ⌜ Indexed (now (s .entry)) (now (ps .entry)) r ⌝ }
 {
@@ -58,7 +58,7 @@ fn chain_of(s: &[u8], ps: &[u16]) -> [u16; 3072]
 }
 
 // The place of the object of this number and type, and the pool's length where there is none.
-fn find_object(s: &[u8], ps: &[u16], chain: &[u16], kind: u8, n: u16) -> usize
+pub fn find_object(s: &[u8], ps: &[u16], chain: &[u16], kind: u8, n: u16) -> usize
     requires { ⌜ Indexed (now s) (now ps) (now chain) ⌝ }
     ensures { λ r. ⌜ (r ≡ objectOf (now (s .entry)) (now (ps .entry)) kind n) × (r < 65536) ⌝ }
 {
@@ -92,7 +92,7 @@ fn numbers_of(s: &[u8], ps: &[u16]) -> [u16; 2048]
 }
 
 // The ID of each object of this type in the list of count numbers at a place, at the front.
-fn ids_of(s: &[u8], ps: &[u16], chain: &[u16], kind: u8, at: usize, count: usize) -> [u16; 255]
+pub fn ids_of(s: &[u8], ps: &[u16], chain: &[u16], kind: u8, at: usize, count: usize) -> [u16; 255]
     requires { ⌜ Indexed (now s) (now ps) (now chain) × (at < 131072) × (count ≤ 255) ⌝ }
     ensures { λ r. ⌜ take count r ≡ map (idOf (now (s .entry)) (now (ps .entry)) kind) (numbersAt 2 (now (s .entry)) at count) ⌝ }
 {
