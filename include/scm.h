@@ -23,6 +23,26 @@ typedef struct scm_verdict {
 /* Judges any bytes at all as a client's pool; more than 16,384 bytes give 0xFF and 0xFFFF. Writes no memory. */
 scm_verdict scm_pool_check(const uint8_t *pool, size_t pool_len);
 
+/* A label: its bytes, and 0 in the cells past its length. */
+typedef struct scm_label {
+    uint8_t length;
+    uint8_t bytes[63];
+} scm_label;
+
+/* What the master keeps of a pool: trigger[f] is the preferred trigger of function f (1 time, 2 distance, 255 either), 0 where the pool lists no
+   function f; bit s of states[f] says that function f has state s. */
+typedef struct scm_profile {
+    uint64_t master;
+    uint64_t mask;
+    scm_label version;
+    scm_label configuration;
+    uint8_t trigger[256];
+    uint64_t states[256];
+} scm_profile;
+
+/* What is kept of any bytes at all; of a pool that the check refuses, nothing: all is 0. Writes no lent memory. */
+scm_profile scm_profile_of(const uint8_t *pool, size_t pool_len);
+
 /* ---- The shown value */
 
 /* The shown value, (value + offset) * scale: the sum exact, the product rounded once to a double, and exact where the sum is

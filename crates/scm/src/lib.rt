@@ -2,8 +2,10 @@
 ghost use mathlib.Core.Path.{_≡_};
 ghost use lib.Ieee.{binary32, ofBits};
 ghost use Rattle.pool.specs.Pool.{verdictOf};
+ghost use Rattle.profile.specs.Profile.{profileOf};
 ghost use Rattle.shown.specs.Value.{shownOf, Exact};
 use pool::Verdict;
+use profile::Profile;
 use shown::Shown;
 
 #[no_mangle]
@@ -11,6 +13,13 @@ pub extern "C" fn scm_pool_check(bytes: &[u8]) -> Verdict
     ensures { λ r. ⌜ r ≡ verdictOf (now (bytes .entry)) ⌝ }
 {
     pool::check(bytes)
+}
+
+#[no_mangle]
+pub extern "C" fn scm_profile_of(bytes: &[u8]) -> Profile
+    ensures { λ r. ⌜ r ≡ profileOf (now (bytes .entry)) ⌝ }
+{
+    profile::profile_of(bytes)
 }
 
 #[no_mangle]
