@@ -36,6 +36,36 @@ static void show(uint32_t value)
     }
 }
 
+static void print_bytes(const char *what, const uint8_t *bytes, size_t length)
+{
+    printf("%-28s", what);
+    for (size_t i = 0; i < length; i++) {
+        printf(" %02X", bytes[i]);
+    }
+    printf("\n");
+}
+
+/* A command leaves, its answer comes in, and the acknowledgement leaves. */
+static void exchange(void)
+{
+    static const uint8_t answer[8] = {0x34, 0x05, 0x82, 0x00, 0xFF, 0xFF, 0xFF, 0xFF};
+    scm_message command = {.kind = SCM_COMMAND, .step = {.function = 5, .state = 2, .tan = 255, .value = 240}};
+    scm_message message;
+    uint8_t out[8];
+    size_t length;
+
+    if (scm_message_write(&command, out, sizeof out, &length) == 0) {
+        print_bytes("command, value 240:", out, length);
+    }
+    if (scm_message_read(SCM_CLIENT, answer, sizeof answer, &message) == 0 && message.kind == SCM_ANSWER) {
+        message.kind = SCM_ANSWER_ACKNOWLEDGEMENT;
+        if (scm_message_write(&message, out, sizeof out, &length) == 0) {
+            print_bytes("answer:", answer, sizeof answer);
+            print_bytes("acknowledged:", out, length);
+        }
+    }
+}
+
 int main(void)
 {
     uint8_t altered[sizeof least];
@@ -52,6 +82,7 @@ int main(void)
     altered[29] = 7;
     check("a list that names object 7", altered, sizeof altered);
 
+    exchange();
     show(240);
     show(220);
     return 0;

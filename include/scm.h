@@ -23,7 +23,7 @@ typedef struct scm_verdict {
 /* Judges any bytes at all as a client's pool; more than 16,384 bytes give 0xFF and 0xFFFF. Writes no memory. */
 scm_verdict scm_pool_check(const uint8_t *pool, size_t pool_len);
 
-/* A label: its bytes, and 0 in the cells past its length. */
+/* A label: the first `length` bytes count; the library leaves 0 in the others. */
 typedef struct scm_label {
     uint8_t length;
     uint8_t bytes[63];
@@ -42,6 +42,119 @@ typedef struct scm_profile {
 
 /* What is kept of any bytes at all; of a pool that the check refuses, nothing: all is 0. Writes no lent memory. */
 scm_profile scm_profile_of(const uint8_t *pool, size_t pool_len);
+
+/* ---- Messages C.2 to C.5, D.2 to D.15, E.2 to E.8 */
+
+/* The side that sent a message. */
+#define SCM_CLIENT 0u
+#define SCM_MASTER 1u
+
+/* scm_message.kind, and the fields that each message has. A reading gives 0 in every field that its message lacks; writing does not
+ * look at them. "->" is a message to the master, sent by a client; "<-" one from the master. */
+enum scm_kind {
+    SCM_NOTHING = 0,                /*          none: what a refused reading holds; writing it gives 4 */
+    SCM_CAPABILITY_REQUEST = 1,     /* C.2  ->  code: the version, 0 to 2 */
+    SCM_CAPABILITY_RESPONSE = 2,    /* C.3  <-  capability */
+    SCM_MEMORY_REQUEST = 3,         /* C.4  ->  memory: the bytes that the pool needs */
+    SCM_MEMORY_RESPONSE = 4,        /* C.5  <-  code: 0 enough, 1 not enough */
+    SCM_VERSION_REQUEST = 5,        /* D.2  -> */
+    SCM_VERSION_RESPONSE = 6,       /* D.3  <-  code: 0 and a label of 1 to 63 bytes; 1 no match or 255 other error, and no label */
+    SCM_CONFIGURATION_REQUEST = 7,  /* D.4  -> */
+    SCM_CONFIGURATION_RESPONSE = 8, /* D.5  <-  code and label as in D.3 */
+    SCM_TRANSFER = 9,               /* D.6  ->  the pool is bytes 2 on of what was read: bytes + 1, len - 1.
+                                                Written by scm_transfer_write; scm_message_write gives 4 */
+    SCM_TRANSFER_RESPONSE = 10,     /* D.7  <-  code: 0 none, 1 error while transferring, 255 other */
+    SCM_ACTIVATION_COMMAND = 11,    /* D.8  -> */
+    SCM_POOL_ACKNOWLEDGEMENT = 12,  /* D.9  <-  code: 0 to 12, 255; object: the first at fault, 65535 with code 0 */
+    SCM_DELETE_COMMAND = 13,        /* D.10 ->  code: 0 volatile memory, 1 non-volatile */
+    SCM_DELETE_RESPONSE = 14,       /* D.11 <-  code: 0 none, 1 no such pool, 255 other */
+    SCM_STORE_COMMAND = 15,         /* D.12 -> */
+    SCM_STORE_RESPONSE = 16,        /* D.13 <-  code: 0 none, 1 not parsed yet, 2 no room, 255 other */
+    SCM_LOAD_COMMAND = 17,          /* D.14 -> */
+    SCM_LOAD_RESPONSE = 18,         /* D.15 <-  code: 0 none, 1 not found, 2 damaged, 3 no room, 255 other */
+    SCM_STATE_COMMAND = 19,         /* E.2  <-  code: 0 disable, 1 enable; reason: 1 operator, 2 not in the sequence, 3 in it, 255 none */
+    SCM_CLIENT_ABORT = 20,          /* E.3  ->  code: 1 status timed out, 2 operator, 3 fault while executing, 255 other */
+    SCM_INDICATION = 21,            /* E.4  ->  step: function, state, status, tan, value */
+    SCM_INDICATION_RESPONSE = 22,   /* E.5  <-  step: function, state, status, error (0 to 6, 255), tan */
+    SCM_COMMAND = 23,               /* E.6  <-  step: function, state, tan, value */
+    SCM_ANSWER = 24,                /* E.7  ->  step: function, state, status, error (0 to 3, 255), tan */
+    SCM_ANSWER_ACKNOWLEDGEMENT = 25 /* E.8  <-  step: function, state, status, tan */
+};
+
+/* scm_message_step.status: bits 7 and 8 of byte 3. Any other number gives 4 where the message has a status. */
+enum scm_status { SCM_AT_ONCE = 0, SCM_STARTED = 1, SCM_DONE = 2, SCM_FAILED = 3 };
+
+/* C.3: width, height and characters are 32 at least, version 0 to 2; the last four are the font's. */
+typedef struct scm_capability {
+    uint8_t version;
+    uint8_t width;
+    uint8_t height;
+    uint16_t characters;
+    uint8_t colour;
+    uint8_t size;
+    uint8_t font;
+    uint8_t style;
+} scm_capability;
+
+/* E.4 to E.8: the state is at most 63. */
+typedef struct scm_message_step {
+    uint8_t function;
+    uint8_t state;
+    uint8_t status;
+    uint8_t error;
+    uint8_t tan;
+    uint32_t value;
+} scm_message_step;
+
+typedef struct scm_message {
+    uint8_t kind;
+    uint8_t code;
+    uint8_t reason;
+    uint16_t object;
+    uint32_t memory;
+    scm_capability capability;
+    scm_message_step step;
+    scm_label label;
+} scm_message;
+
+typedef struct scm_message_reading {
+    uint8_t number;
+    scm_message message;
+} scm_message_reading;
+
+typedef struct scm_written {
+    uint8_t number;
+    size_t length;
+} scm_written;
+
+scm_message_reading scm_read(uint32_t side, const uint8_t *bytes, size_t len);
+scm_written scm_write(scm_message message, uint8_t *out, size_t out_len);
+scm_written scm_write_transfer(const uint8_t *pool, size_t pool_len, uint8_t *out, size_t out_len);
+
+/* What `len` bytes that `side` sent say: 0, or 4 and a message of kind SCM_NOTHING with 0 in every field. */
+static inline uint8_t scm_message_read(uint32_t side, const uint8_t *bytes, size_t len, scm_message *message)
+{
+    scm_message_reading r = scm_read(side, bytes, len);
+    *message = r.message;
+    return r.number;
+}
+
+/* Writes a message: 0 and its length, or 1 (out too short) or 4 (a field's value is not allowed), length 0, and out as it was.
+ * 80 bytes of out are enough for every message but D.6. Bytes of out past the length stay. */
+static inline uint8_t scm_message_write(const scm_message *message, uint8_t *out, size_t out_len, size_t *length)
+{
+    scm_written w = scm_write(*message, out, out_len);
+    *length = w.length;
+    return w.number;
+}
+
+/* Writes a transfer, D.6: its code and the pool, of 8 to 16,384 bytes. The numbers are those of scm_message_write. */
+static inline uint8_t scm_transfer_write(const uint8_t *pool, size_t pool_len, uint8_t *out, size_t out_len, size_t *length)
+{
+    scm_written w = scm_write_transfer(pool, pool_len, out, out_len);
+    *length = w.length;
+    return w.number;
+}
 
 /* ---- The shown value */
 

@@ -1,9 +1,18 @@
 // The calls for C, as include/scm.h declares them: each hands its numbers and slices to a crate below and says what that crate's definition says.
 ghost use mathlib.Core.Path.{_≡_};
+ghost use mathlib.Core.List.{[]};
+ghost use lib.ListN.{length};
 ghost use lib.Ieee.{binary32, ofBits};
+ghost use Rattle.octets.specs.Label.{blank};
 ghost use Rattle.pool.specs.Pool.{verdictOf};
+ghost use Rattle.message.specs.Messages.{writtenOf, leftOf};
+ghost use Rattle.message.specs.declared.Message.the-variants.{Transfer};
+ghost use Rattle.flat.specs.Flat.{messageFrom, readingOf};
 ghost use Rattle.profile.specs.Profile.{profileOf};
 ghost use Rattle.shown.specs.Value.{shownOf, Exact};
+use flat::Flat;
+use flat::FlatReading;
+use message::Written;
 use pool::Verdict;
 use profile::Profile;
 use shown::Shown;
@@ -20,6 +29,30 @@ pub extern "C" fn scm_profile_of(bytes: &[u8]) -> Profile
     ensures { λ r. ⌜ r ≡ profileOf (now (bytes .entry)) ⌝ }
 {
     profile::profile_of(bytes)
+}
+
+// What bytes that a side sent say: side 0 is a client, 1 the master.
+#[no_mangle]
+pub extern "C" fn scm_read(side: u32, bytes: &[u8]) -> FlatReading
+    ensures { λ r. ⌜ r ≡ readingOf side (now (bytes .entry)) ⌝ }
+{
+    flat::read(side, bytes)
+}
+
+#[no_mangle]
+pub extern "C" fn scm_write(message: Flat, out: &mut [u8]) -> Written
+    ensures { λ r. ⌜ r ≡ writtenOf (messageFrom message) (message .label) [] (length (now (out .entry))) ⌝ }
+    ensures { λ _. ⌜ now (out .exit) ≡ leftOf (messageFrom message) (message .label) [] (now (out .entry)) ⌝ }
+{
+    flat::write(message, out)
+}
+
+#[no_mangle]
+pub extern "C" fn scm_write_transfer(pool: &[u8], out: &mut [u8]) -> Written
+    ensures { λ r. ⌜ r ≡ writtenOf Transfer blank (now (pool .entry)) (length (now (out .entry))) ⌝ }
+    ensures { λ _. ⌜ now (out .exit) ≡ leftOf Transfer blank (now (pool .entry)) (now (out .entry)) ⌝ }
+{
+    message::write_transfer(pool, out)
 }
 
 #[no_mangle]

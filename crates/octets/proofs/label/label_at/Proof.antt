@@ -6,7 +6,7 @@ use Prim.Native.Nat.{ℕ, _+_, _-_, _≤_, min}
 use native.Mathlib.Omega.{arith}
 use denote.Ref.{now}
 use lib.ListN.{getD, replicate}
-use Rattle.octets.specs.Label.{cells, bytesAt, labelAt}
+use Rattle.octets.specs.Label.{bytesAt, labelAt}
 use Rattle.octets.proofs.Cells.{next-of}
 use Rattle.octets.proofs.label.label_at.Statement.{statement}
 use Rattle.octets.proofs.label.label_at.Tie as tie

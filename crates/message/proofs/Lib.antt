@@ -1,0 +1,5 @@
+pub mod Rows
+pub mod Bits
+pub mod Cases
+pub mod Back
+pub mod Refuses

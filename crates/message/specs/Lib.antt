@@ -1,0 +1,4 @@
+pub mod Fields
+pub mod Layout
+pub mod Messages
+pub mod Promises
