@@ -11,8 +11,11 @@ use lib.Seq.{drop-cons, take-suc, take-suc-set, take-all}
 use Rattle.octets.specs.Pick.{pick}
 use Rattle.octets.specs.Octets.{numberAt}
 use Rattle.octets.proofs.Laws.{number-one}
-use Rattle.pool.specs.Fields.{numbersAt, versionLabel}
+use Rattle.pool.specs.declared.Verdict.{Verdict}
+use Rattle.pool.specs.Verdicts.{fine, firstFault}
+use Rattle.pool.specs.Fields.{numbersAt}
 use Rattle.pool.specs.StageTwo.{find}
+use Rattle.pool.proofs.Faults.{fault-end, fault-here, fault-next}
 
 -- ---- numbers one after the other
 
@@ -28,9 +31,26 @@ module _ (w : ℕ) (s : List ℕ) where
   number-in i (suc n) zero h = ap (numberAt w s) (omega arith)
   number-in i (suc n) (suc k) h = number-in (i + w) n k (omega arith) ∙ ap (numberAt w s) (omega arith)
 
--- a byte of the version label
-pub character-in : (s : List ℕ) (b k : ℕ) → k < getD s (b + 24) 0 → getD (versionLabel s b) k 0 ≡ getD s (b + 27 + k) 0
-character-in s b k h = number-in 1 s (b + 27) (getD s (b + 24) 0) k h ∙ number-one s (b + 27 + 1 * k) ∙ ap (λ (i : ℕ). getD s i 0) (omega arith)
+-- a byte, as a number of one byte
+pub byte-in : (s : List ℕ) (i k : ℕ) → getD s (i + k) 0 ≡ numberAt 1 s (i + 1 * k)
+byte-in s i k =
+    let e : i + 1 * k ≡ i + k = omega arith in
+    sym (number-one s (i + k)) ∙ ap (numberAt 1 s) (sym e)
+
+-- the first fault of such a list from its number k on, which is n
+module _ (f : ℕ → Verdict) (w : ℕ) (s : List ℕ) (i count k : ℕ) where
+  pub list-end : count ≤ k → firstFault f (drop k (numbersAt w s i count)) ≡ fine
+  list-end h = fault-end f (numbersAt w s i count) k (omega (arith, length-numbers w s i count))
+
+  module _ (h : k < count) (n : ℕ) (e : n ≡ numberAt w s (i + w * k)) (v : Verdict) (is : f n ≡ v) where
+    says : f (getD (numbersAt w s i count) k 0) ≡ v
+    says = ap f (number-in w s i count k h ∙ sym e) ∙ is
+
+    pub list-here : (v .code ≡ 0 → ⊥) → firstFault f (drop k (numbersAt w s i count)) ≡ v
+    list-here z = fault-here f (numbersAt w s i count) k v (omega (arith, length-numbers w s i count)) says z
+
+    pub list-next : v .code ≡ 0 → firstFault f (drop k (numbersAt w s i count)) ≡ firstFault f (drop (k + 1) (numbersAt w s i count))
+    list-next z = fault-next f (numbersAt w s i count) k v (omega (arith, length-numbers w s i count)) says z
 
 -- ---- gathered: the first k elements are there, and the next is stored
 

@@ -4,9 +4,10 @@ ghost use mathlib.Core.List.{map, []};
 ghost use Prim.Native.Nat.{_+_, _*_, _≤_, _<_};
 ghost use lib.ListN.{length, take};
 ghost use Rattle.pool.specs.Verdicts.{firstFault};
+ghost use Rattle.pool.specs.Verdicts as Verdicts;
 ghost use Rattle.pool.specs.Fields.{numberOf, numbersAt, placesFrom, functionsFrom, functionsOf};
 ghost use Rattle.pool.specs.Index.{Indexed};
-ghost use Rattle.pool.specs.StageTwo.{objectOf, idOf, firstRepeat, numbersFault, isForbidden, characterRight, labelFault, absentFault, idsFault, statesFault, listsFault, judged, stageTwo};
+ghost use Rattle.pool.specs.StageTwo.{objectOf, idOf, firstRepeat, noBase, numbersFault, versionFault, isForbidden, characterRight, labelFault, absentFault, idsFault, statesFault, listsFault, judged, stageTwo};
 use crate::FINE;
 use crate::Verdict;
 use crate::fields::id_at;
@@ -260,6 +261,13 @@ fn functions_fault(
     FINE
 }
 
+// The earlier verdict, unless it finds no fault.
+fn first(v: Verdict, later: Verdict) -> Verdict
+    ensures { λ r. ⌜ r ≡ Verdicts.first v later ⌝ }
+{
+    if v.code == 0 { later } else { v }
+}
+
 // 03, 06, 04 and 07.
 fn lists_fault(s: &[u8], ps: &[u16], chain: &[u16], b: usize) -> Verdict
     requires { ⌜ Indexed (now s) (now ps) (now chain) × (b < 65536) ⌝ }
@@ -270,43 +278,49 @@ fn lists_fault(s: &[u8], ps: &[u16], chain: &[u16], b: usize) -> Verdict
     let o = byte_at(s, b + 26) as usize;
     let at = b + 27 + n + m;
     let three = absent_fault(s, ps, chain, 1, at, o);
-    if three.code != 0 {
-        return three;
-    }
     let six = ids_fault(s, ps, chain, 1, at, o);
-    if six.code != 0 {
-        return six;
-    }
     let four = functions_fault(s, ps, chain, 4, at, o);
-    if four.code != 0 {
-        return four;
-    }
-    functions_fault(s, ps, chain, 7, at, o)
+    let seven = functions_fault(s, ps, chain, 7, at, o);
+    first(three, first(six, first(four, seven)))
 }
 
-// The rules in their order: 02, 05, 0C, 0A, and those on the lists.
+// 02.
+fn no_base(s: &[u8], b: usize) -> Verdict
+    ensures { λ r. ⌜ r ≡ noBase (now (s .entry)) b ⌝ }
+{
+    if b < s.len() {
+        FINE
+    } else {
+        Verdict { code: 2, object: 0 }
+    }
+}
+
+// 0C.
+fn version_fault(s: &[u8], b: usize) -> Verdict
+    requires { ⌜ b < 65536 ⌝ }
+    ensures { λ r. ⌜ r ≡ versionFault (now (s .entry)) b ⌝ }
+{
+    if byte_at(s, b + 3) == 2 {
+        FINE
+    } else {
+        Verdict {
+            code: 12,
+            object: 0,
+        }
+    }
+}
+
+// The rules in their order: 02, 05, 0C, 0A, and those on the lists. Each looks at the whole pool, and none needs what another has found.
 fn judge(s: &[u8], ps: &[u16], chain: &[u16], b: usize) -> Verdict
     requires { ⌜ Indexed (now s) (now ps) (now chain) × (b < 65536) ⌝ }
     ensures { λ r. ⌜ r ≡ judged (now (s .entry)) (now (ps .entry)) b ⌝ }
 {
-    if s.len() <= b {
-        return Verdict { code: 2, object: 0 };
-    }
+    let two = no_base(s, b);
     let five = numbers_fault(s, ps);
-    if five.code != 0 {
-        return five;
-    }
-    if byte_at(s, b + 3) != 2 {
-        return Verdict {
-            code: 12,
-            object: 0,
-        };
-    }
+    let twelve = version_fault(s, b);
     let ten = label_fault(s, b);
-    if ten.code != 0 {
-        return ten;
-    }
-    lists_fault(s, ps, chain, b)
+    let lists = lists_fault(s, ps, chain, b);
+    first(two, first(five, first(twelve, first(ten, lists))))
 }
 
 pub fn stage_two(s: &[u8]) -> Verdict

@@ -11,8 +11,7 @@ use Rattle.octets.specs.Pick.{pick}
 use Rattle.pool.specs.Verdicts.{verdict, fine, firstFault}
 use Rattle.pool.specs.Fields.{numbersAt}
 use Rattle.pool.specs.StageTwo.{absentFault}
-use Rattle.pool.proofs.Faults.{fault-end, fault-here, fault-next}
-use Rattle.pool.proofs.Lists.{length-numbers, number-in}
+use Rattle.pool.proofs.Lists.{list-end, list-here, list-next}
 use Rattle.pool.proofs.stage_two.absent_fault.Statement.{statement}
 use Rattle.pool.proofs.stage_two.absent_fault.Tie as tie
 
@@ -30,12 +29,10 @@ returns c =
     let at-loop = at-number .before .before in
     let i = at-loop .loop in
     let a = at-loop .before .before .before .before .args in
-    let s = now (a .s) in
-    let l = numbersAt 2 s (a .at) (a .count) in
-    let n : getD l (i .k) 0 ≡ at-number .u16-at .result = number-in 2 s (a .at) (a .count) (i .k) (omega arith) ∙ sym (at-number .u16-at .ensures) in
-    let v = verdict (a .kind + 2) (at-number .u16-at .result) in
-    let e : absentFault s (now (a .ps)) (a .kind) (getD l (i .k) 0) ≡ v = rw (n, ← c .before .find-object .ensures .0, le-leb _ _ (c .if1 .taken)) in
-    sym (i .inv ∙ fault-here (absentFault s (now (a .ps)) (a .kind)) l (i .k) v (omega (arith, length-numbers 2 s (a .at) (a .count))) e (λ z. omega arith))
+    let f = absentFault (now (a .s)) (now (a .ps)) (a .kind) in
+    let n = at-number .u16-at .result in
+    let e : f n ≡ verdict (a .kind + 2) n = rw (← c .before .find-object .ensures .0, le-leb _ _ (c .if1 .taken)) in
+    sym (i .inv ∙ list-here f 2 (now (a .s)) (a .at) (a .count) (i .k) (omega arith) n (at-number .u16-at .ensures) _ e (λ z. omega arith))
 
 loop-again : tie.Need-loop-again Inv-loop μ-loop
 unfolding absentFault pick
@@ -44,18 +41,16 @@ loop-again c =
     let at-loop = at-number .before .before in
     let i = at-loop .loop in
     let a = at-loop .before .before .before .before .args in
-    let s = now (a .s) in
-    let l = numbersAt 2 s (a .at) (a .count) in
-    let n : getD l (i .k) 0 ≡ at-number .u16-at .result = number-in 2 s (a .at) (a .count) (i .k) (omega arith) ∙ sym (at-number .u16-at .ensures) in
-    let e : absentFault s (now (a .ps)) (a .kind) (getD l (i .k) 0) ≡ fine = rw (n, ← c .before .find-object .ensures .0, lt-leb _ _ (c .if1 .left)) in
-    i .inv ∙ fault-next (absentFault s (now (a .ps)) (a .kind)) l (i .k) fine (omega (arith, length-numbers 2 s (a .at) (a .count))) e refl
+    let f = absentFault (now (a .s)) (now (a .ps)) (a .kind) in
+    let n = at-number .u16-at .result in
+    let e : f n ≡ fine = rw (← c .before .find-object .ensures .0, lt-leb _ _ (c .if1 .left)) in
+    i .inv ∙ list-next f 2 (now (a .s)) (a .at) (a .count) (i .k) (omega arith) n (at-number .u16-at .ensures) fine e refl
 
 returns-2 : tie.Need-returns-2 Inv-loop μ-loop
 returns-2 c =
     let i = c .before .loop in
     let a = c .before .before .before .before .before .args in
-    let s = now (a .s) in
-    sym (i .inv ∙ fault-end (absentFault s (now (a .ps)) (a .kind)) (numbersAt 2 s (a .at) (a .count)) (i .k) (omega (arith, length-numbers 2 s (a .at) (a .count))))
+    sym (i .inv ∙ list-end (absentFault (now (a .s)) (now (a .ps)) (a .kind)) 2 (now (a .s)) (a .at) (a .count) (i .k) (omega arith))
 
 pub absent-fault-spec : {M : Type 1} → statement M
 absent-fault-spec =

@@ -2,15 +2,14 @@
 -- The measure is what is left of the list. Assumes nothing.
 use Prim.Native.Nat.{_-_}
 use native.Mathlib.Omega.{arith}
-use mathlib.Core.Path.{_≡_, refl, sym, ap, _∙_}
-use lib.ListN.{getD, drop}
+use mathlib.Core.Path.{_≡_, refl, sym, _∙_}
+use lib.ListN.{drop}
 use denote.Ref.{now}
 use borrow.Author.Needs.{needs}
 use Rattle.pool.specs.Verdicts.{firstFault}
 use Rattle.pool.specs.Fields.{numbersAt}
 use Rattle.pool.specs.StageTwo.{statesFault}
-use Rattle.pool.proofs.Faults.{fault-end, fault-here, fault-next}
-use Rattle.pool.proofs.Lists.{length-numbers, number-in}
+use Rattle.pool.proofs.Lists.{list-end, list-here, list-next}
 use Rattle.pool.proofs.stage_two.functions_fault.Statement.{statement}
 use Rattle.pool.proofs.stage_two.functions_fault.Tie as tie
 
@@ -28,11 +27,8 @@ returns c =
     let at-loop = at-number .before .before in
     let i = at-loop .loop in
     let a = at-loop .before .before .before .before .args in
-    let s = now (a .s) in
-    let l = numbersAt 2 s (a .at) (a .count) in
-    let f = statesFault s (now (a .ps)) (a .code) in
-    let n : getD l (i .k) 0 ≡ at-number .u16-at .result = number-in 2 s (a .at) (a .count) (i .k) (omega arith) ∙ sym (at-number .u16-at .ensures) in
-    sym (i .inv ∙ fault-here f l (i .k) (at-fault .states-fault .result) (omega (arith, length-numbers 2 s (a .at) (a .count))) (ap f n ∙ sym (at-fault .states-fault .ensures)) (c .if1 .taken))
+    let f = statesFault (now (a .s)) (now (a .ps)) (a .code) in
+    sym (i .inv ∙ list-here f 2 (now (a .s)) (a .at) (a .count) (i .k) (omega arith) _ (at-number .u16-at .ensures) _ (sym (at-fault .states-fault .ensures)) (c .if1 .taken))
 
 loop-again : tie.Need-loop-again Inv-loop μ-loop
 loop-again c =
@@ -41,18 +37,14 @@ loop-again c =
     let at-loop = at-number .before .before in
     let i = at-loop .loop in
     let a = at-loop .before .before .before .before .args in
-    let s = now (a .s) in
-    let l = numbersAt 2 s (a .at) (a .count) in
-    let f = statesFault s (now (a .ps)) (a .code) in
-    let n : getD l (i .k) 0 ≡ at-number .u16-at .result = number-in 2 s (a .at) (a .count) (i .k) (omega arith) ∙ sym (at-number .u16-at .ensures) in
-    i .inv ∙ fault-next f l (i .k) (at-fault .states-fault .result) (omega (arith, length-numbers 2 s (a .at) (a .count))) (ap f n ∙ sym (at-fault .states-fault .ensures)) (c .if1 .left)
+    let f = statesFault (now (a .s)) (now (a .ps)) (a .code) in
+    i .inv ∙ list-next f 2 (now (a .s)) (a .at) (a .count) (i .k) (omega arith) _ (at-number .u16-at .ensures) _ (sym (at-fault .states-fault .ensures)) (c .if1 .left)
 
 returns-2 : tie.Need-returns-2 Inv-loop μ-loop
 returns-2 c =
     let i = c .before .loop in
     let a = c .before .before .before .before .before .args in
-    let s = now (a .s) in
-    sym (i .inv ∙ fault-end (statesFault s (now (a .ps)) (a .code)) (numbersAt 2 s (a .at) (a .count)) (i .k) (omega (arith, length-numbers 2 s (a .at) (a .count))))
+    sym (i .inv ∙ list-end (statesFault (now (a .s)) (now (a .ps)) (a .code)) 2 (now (a .s)) (a .at) (a .count) (i .k) (omega arith))
 
 pub functions-fault-spec : {M : Type 1} → statement M
 functions-fault-spec =

@@ -10,8 +10,7 @@ use Rattle.octets.proofs.Tests.{pick-true, pick-false, denied, granted}
 use Rattle.pool.specs.Verdicts.{verdict, fine, firstFault}
 use Rattle.pool.specs.Fields.{versionLabel}
 use Rattle.pool.specs.StageTwo.{characterFault, labelFault}
-use Rattle.pool.proofs.Faults.{fault-end, fault-here, fault-next}
-use Rattle.pool.proofs.Lists.{length-numbers, character-in}
+use Rattle.pool.proofs.Lists.{byte-in, list-end, list-here, list-next}
 use Rattle.pool.proofs.stage_two.label_fault.Statement.{statement}
 use Rattle.pool.proofs.stage_two.label_fault.Tie as tie
 
@@ -30,11 +29,9 @@ returns c =
     let i = at-loop .loop in
     let a = at-loop .before .before .before .args in
     let s = now (a .s) in
-    let l = versionLabel s (a .b) in
     let n = at-loop .before .byte-at .ensures in
-    let x : getD l (i .k) 0 ≡ at-byte .byte-at2 .result = character-in s (a .b) (i .k) (omega arith) ∙ sym (at-byte .byte-at2 .ensures) in
-    let e : characterFault (getD l (i .k) 0) ≡ verdict 10 0 = rw x (pick-false _ _ _ (denied _ _ (at-right .character-right .ensures) (c .if1 .taken))) in
-    sym (i .inv ∙ fault-here characterFault l (i .k) (verdict 10 0) (omega (arith, length-numbers 1 s (a .b + 27) (getD s (a .b + 24) 0))) e (λ z. omega arith))
+    let x = at-byte .byte-at2 .ensures ∙ byte-in s (a .b + 27) (i .k) in
+    sym (i .inv ∙ list-here characterFault 1 s (a .b + 27) (getD s (a .b + 24) 0) (i .k) (omega arith) _ x (verdict 10 0) (pick-false _ _ _ (denied _ _ (at-right .character-right .ensures) (c .if1 .taken))) (λ z. omega arith))
 
 loop-again : tie.Need-loop-again Inv-loop μ-loop
 loop-again c =
@@ -44,11 +41,9 @@ loop-again c =
     let i = at-loop .loop in
     let a = at-loop .before .before .before .args in
     let s = now (a .s) in
-    let l = versionLabel s (a .b) in
     let n = at-loop .before .byte-at .ensures in
-    let x : getD l (i .k) 0 ≡ at-byte .byte-at2 .result = character-in s (a .b) (i .k) (omega arith) ∙ sym (at-byte .byte-at2 .ensures) in
-    let e : characterFault (getD l (i .k) 0) ≡ fine = rw x (pick-true _ _ _ (granted _ _ (at-right .character-right .ensures) (c .if1 .left))) in
-    i .inv ∙ fault-next characterFault l (i .k) fine (omega (arith, length-numbers 1 s (a .b + 27) (getD s (a .b + 24) 0))) e refl
+    let x = at-byte .byte-at2 .ensures ∙ byte-in s (a .b + 27) (i .k) in
+    i .inv ∙ list-next characterFault 1 s (a .b + 27) (getD s (a .b + 24) 0) (i .k) (omega arith) _ x fine (pick-true _ _ _ (granted _ _ (at-right .character-right .ensures) (c .if1 .left))) refl
 
 returns-2 : tie.Need-returns-2 Inv-loop μ-loop
 unfolding labelFault
@@ -58,7 +53,7 @@ returns-2 c =
     let a = at-loop .before .before .before .args in
     let s = now (a .s) in
     let n = at-loop .before .byte-at .ensures in
-    sym (i .inv ∙ fault-end characterFault (versionLabel s (a .b)) (i .k) (omega (arith, length-numbers 1 s (a .b + 27) (getD s (a .b + 24) 0))))
+    sym (i .inv ∙ list-end characterFault 1 s (a .b + 27) (getD s (a .b + 24) 0) (i .k) (omega arith))
 
 pub label-fault-spec : {M : Type 1} → statement M
 label-fault-spec =
