@@ -104,23 +104,25 @@ unfoldable pub statesFault : List ℕ → List ℕ → ℕ → ℕ → Verdict
 statesFault s ps code n =
     pick (eqb code 4) (firstFault (absentFault s ps 2) (statesListed s ps n)) (idsFault s ps 2 (statesListed s ps n))
 
+-- "a listed function absent, 03 ..; two listed functions with one function ID, 06"
+unfoldable pub functionsFault : List ℕ → List ℕ → List ℕ → Verdict
+functionsFault s ps functions = first (firstFault (absentFault s ps 1) functions) (idsFault s ps 1 functions)
+
+-- "a listed state absent, 04 ..; two states of one function .., 07", each over the whole pool: every 04 before any 07
+unfoldable pub statesFaults : List ℕ → List ℕ → List ℕ → Verdict
+statesFaults s ps functions = first (firstFault (statesFault s ps 4) functions) (firstFault (statesFault s ps 7) functions)
+
 -- "lists are taken in list order, functions in the base's order"
 unfoldable pub listsFault : List ℕ → List ℕ → List ℕ → Verdict
-listsFault s ps functions =
-    first (firstFault (absentFault s ps 1) functions)
-    (first (idsFault s ps 1 functions)
-    (first (firstFault (statesFault s ps 4) functions)
-    (firstFault (statesFault s ps 7) functions)))
+listsFault s ps functions = first (functionsFault s ps functions) (statesFaults s ps functions)
 
--- "Stage two, each over the whole pool: no base, 02 ..; object number seen before, 05; version not 2, 0C; a version label byte .., 0A; a listed
--- function absent, 03 ..; two listed functions with one function ID, 06; a listed state absent, 04 ..; two states of one function .., 07."
+-- "no base, 02 ..; object number seen before, 05; version not 2, 0C; a version label byte .., 0A"
+unfoldable pub baseFault : List ℕ → List ℕ → ℕ → Verdict
+baseFault s ps b = first (noBase s b) (first (numbersFault s ps) (first (versionFault s b) (labelFault s b)))
+
+-- "Stage two, each over the whole pool": 02, 05, 0C, 0A; then 03, 06, 04, 07
 unfoldable pub judged : List ℕ → List ℕ → ℕ → Verdict
-judged s ps b =
-    first (noBase s b)
-    (first (numbersFault s ps)
-    (first (versionFault s b)
-    (first (labelFault s b)
-    (listsFault s ps (functionsOf s b)))))
+judged s ps b = first (baseFault s ps b) (listsFault s ps (functionsOf s b))
 
 unfoldable pub stageTwo : List ℕ → Verdict
 stageTwo s = judged s (placesFrom s 0) (objectOf s (placesFrom s 0) 0 0)

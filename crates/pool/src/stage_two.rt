@@ -7,7 +7,7 @@ ghost use Rattle.pool.specs.Verdicts.{firstFault};
 ghost use Rattle.pool.specs.Verdicts as Verdicts;
 ghost use Rattle.pool.specs.Fields.{numberOf, numbersAt, placesFrom, functionsFrom, functionsOf};
 ghost use Rattle.pool.specs.Index.{Indexed};
-ghost use Rattle.pool.specs.StageTwo.{objectOf, idOf, firstRepeat, noBase, numbersFault, versionFault, isForbidden, characterRight, labelFault, absentFault, idsFault, statesFault, listsFault, judged, stageTwo};
+ghost use Rattle.pool.specs.StageTwo.{objectOf, idOf, firstRepeat, noBase, numbersFault, versionFault, isForbidden, characterRight, labelFault, absentFault, idsFault, statesFault, functionsFault, statesFaults, listsFault, baseFault, judged, stageTwo};
 use crate::FINE;
 use crate::Verdict;
 use crate::fields::id_at;
@@ -268,6 +268,28 @@ fn first(v: Verdict, later: Verdict) -> Verdict
     if v.code == 0 { later } else { v }
 }
 
+// 03 and 06.
+fn functions_rules(s: &[u8], ps: &[u16], chain: &[u16], at: usize, count: usize) -> Verdict
+    requires { ⌜ Indexed (now s) (now ps) (now chain) × (at < 131072) × (count ≤ 255) ⌝ }
+    ensures { λ r. ⌜ r ≡ functionsFault (now (s .entry)) (now (ps .entry)) (numbersAt 2 (now (s .entry)) at count) ⌝ }
+{
+    let three = absent_fault(s, ps, chain, 1, at, count);
+    let six = ids_fault(s, ps, chain, 1, at, count);
+    first(three, six)
+}
+
+// 04 and 07.
+fn states_rules(s: &[u8], ps: &[u16], chain: &[u16], at: usize, count: usize) -> Verdict
+    requires { ⌜ Indexed (now s) (now ps) (now chain) × (at < 131072) × (count ≤ 255) ⌝ }
+    ensures { λ r. ⌜ r ≡ statesFaults (now (s .entry)) (now (ps .entry)) (numbersAt 2 (now (s .entry)) at count) ⌝ }
+{
+    let four = functions_fault(s, ps, chain, 4, at, count);
+    if four.code != 0 {
+        return four;
+    }
+    functions_fault(s, ps, chain, 7, at, count)
+}
+
 // 03, 06, 04 and 07.
 fn lists_fault(s: &[u8], ps: &[u16], chain: &[u16], b: usize) -> Verdict
     requires { ⌜ Indexed (now s) (now ps) (now chain) × (b < 65536) ⌝ }
@@ -277,11 +299,11 @@ fn lists_fault(s: &[u8], ps: &[u16], chain: &[u16], b: usize) -> Verdict
     let m = byte_at(s, b + 25) as usize;
     let o = byte_at(s, b + 26) as usize;
     let at = b + 27 + n + m;
-    let three = absent_fault(s, ps, chain, 1, at, o);
-    let six = ids_fault(s, ps, chain, 1, at, o);
-    let four = functions_fault(s, ps, chain, 4, at, o);
-    let seven = functions_fault(s, ps, chain, 7, at, o);
-    first(three, first(six, first(four, seven)))
+    let early = functions_rules(s, ps, chain, at, o);
+    if early.code != 0 {
+        return early;
+    }
+    states_rules(s, ps, chain, at, o)
 }
 
 // 02.
@@ -310,17 +332,28 @@ fn version_fault(s: &[u8], b: usize) -> Verdict
     }
 }
 
-// The rules in their order: 02, 05, 0C, 0A, and those on the lists. Each looks at the whole pool, and none needs what another has found.
-fn judge(s: &[u8], ps: &[u16], chain: &[u16], b: usize) -> Verdict
-    requires { ⌜ Indexed (now s) (now ps) (now chain) × (b < 65536) ⌝ }
-    ensures { λ r. ⌜ r ≡ judged (now (s .entry)) (now (ps .entry)) b ⌝ }
+// 02, 05, 0C and 0A.
+fn base_fault(s: &[u8], ps: &[u16], b: usize) -> Verdict
+    requires { ⌜ (length (now ps) ≤ 2048) × (b < 65536) ⌝ }
+    ensures { λ r. ⌜ r ≡ baseFault (now (s .entry)) (now (ps .entry)) b ⌝ }
 {
     let two = no_base(s, b);
     let five = numbers_fault(s, ps);
     let twelve = version_fault(s, b);
     let ten = label_fault(s, b);
-    let lists = lists_fault(s, ps, chain, b);
-    first(two, first(five, first(twelve, first(ten, lists))))
+    first(two, first(five, first(twelve, ten)))
+}
+
+// The rules in their order.
+fn judge(s: &[u8], ps: &[u16], chain: &[u16], b: usize) -> Verdict
+    requires { ⌜ Indexed (now s) (now ps) (now chain) × (b < 65536) ⌝ }
+    ensures { λ r. ⌜ r ≡ judged (now (s .entry)) (now (ps .entry)) b ⌝ }
+{
+    let early = base_fault(s, ps, b);
+    if early.code != 0 {
+        return early;
+    }
+    lists_fault(s, ps, chain, b)
 }
 
 pub fn stage_two(s: &[u8]) -> Verdict
