@@ -26,6 +26,22 @@ static void check(const char *what, const uint8_t *pool, size_t length)
     printf("%-36s %02X %04X\n", what, v.code, v.object);
 }
 
+/* The objects of a pool, one after the other, as a screen would list them. */
+static void list(const uint8_t *pool, size_t length)
+{
+    static const char *const kinds[] = {"base", "function", "state"};
+    size_t place = 0;
+
+    for (;;) {
+        scm_object object = scm_object_at(pool, length, place);
+        if (object.kind == SCM_OBJECT_NONE) {
+            break;
+        }
+        printf("place %2zu: %s, number %u\n", place, kinds[object.kind], (unsigned)object.number);
+        place = object.next;
+    }
+}
+
 /* The recorded value is kept as it is; what the screen shows is made from it each time. */
 static void show(uint32_t value)
 {
@@ -82,6 +98,7 @@ int main(void)
     altered[29] = 7;
     check("a list that names object 7", altered, sizeof altered);
 
+    list(least, sizeof least);
     exchange();
     show(240);
     show(220);

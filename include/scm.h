@@ -23,6 +23,55 @@ typedef struct scm_verdict {
 /* Judges any bytes at all as a client's pool; more than 16,384 bytes give 0xFF and 0xFFFF. Writes no memory. */
 scm_verdict scm_pool_check(const uint8_t *pool, size_t pool_len);
 
+/* What stands at a place of a pool. */
+#define SCM_OBJECT_BASE     0u
+#define SCM_OBJECT_FUNCTION 1u
+#define SCM_OBJECT_STATE    2u
+#define SCM_OBJECT_NONE     255u    /* past the end, or cut, or illegal: next is the place, all else is 0 */
+
+/* An object by value. Fields that its kind does not have are 0, and so are the cells after a label and after the list. */
+typedef struct scm_object {
+    uint8_t  kind;                  /* SCM_OBJECT_... */
+    size_t   place;                 /* as it was passed */
+    size_t   next;                  /* the place after the object */
+    uint16_t number;                /* object number */
+    uint8_t  standard;              /* base: version of the standard, 0 to 2 */
+    uint64_t master;                /* base: NAME of the working set master */
+    uint64_t mask;                  /* base: NAME mask */
+    uint16_t name;                  /* number of the text object */
+    uint16_t picture;               /* number of the picture object */
+    uint8_t  function;              /* function: function ID */
+    uint8_t  trigger;               /* function: preferred trigger, 1, 2 or 255 */
+    uint8_t  attribute;             /* function: 0 not shown, 1 shown, 2 shown and changed */
+    uint32_t minimum;               /* function: least value */
+    uint32_t maximum;               /* function: greatest value */
+    uint32_t offset;                /* function: bits of an int32_t */
+    uint32_t scale;                 /* function: bits of a float */
+    uint8_t  decimals;              /* function: decimals shown */
+    uint16_t unit;                  /* function: number of the unit's text object */
+    uint8_t  state;                 /* state: state ID, 0 to 63 */
+    uint8_t  n;                     /* base: bytes of the version label, 1 to 63 */
+    uint8_t  m;                     /* base: bytes of the configuration label, 1 to 63 */
+    uint8_t  count;                 /* numbers in the list: functions of a base, states of a function */
+    uint8_t  version[63];           /* base: version label */
+    uint8_t  configuration[63];     /* base: configuration label */
+    uint16_t list[255];             /* numbers of the objects listed */
+} scm_object;
+
+/* The object at a place of any bytes at all. The first object stands at place 0, each other one at the next place of the one before; a
+   walk ends where kind is SCM_OBJECT_NONE. */
+scm_object scm_object_at(const uint8_t *pool, size_t pool_len, size_t place);
+
+typedef struct scm_rewritten {
+    uint8_t  number;                /* 0 done, 1 lent output too short, 6 pool refused */
+    uint8_t  code;                  /* with 6 the code of D.9, else 0 */
+    uint16_t object;                /* with 6 the object it names, else 0 */
+} scm_rewritten;
+
+/* Takes an accepted pool apart, object by object, and writes it again: out begins with exactly the pool's bytes, and the bytes after them
+   stay. With any number but 0 no byte of out changes. pool and out do not overlap. */
+scm_rewritten scm_pool_rewrite(const uint8_t *pool, size_t pool_len, uint8_t *out, size_t out_len);
+
 /* A label: the first `length` bytes count; the library leaves 0 in the others. */
 typedef struct scm_label {
     uint8_t length;

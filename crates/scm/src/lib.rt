@@ -5,6 +5,9 @@ ghost use lib.ListN.{length};
 ghost use lib.Ieee.{binary32, ofBits};
 ghost use Rattle.octets.specs.Label.{blank};
 ghost use Rattle.pool.specs.Pool.{verdictOf};
+ghost use Rattle.objects.specs.Objects.{foundAt};
+ghost use Rattle.rewrite.specs.Rewrite.{rewriteAnswer, rewriteOut};
+ghost use Rattle.flat_object.specs.Flat.{flatOf};
 ghost use Rattle.message.specs.Messages.{writtenOf, leftOf};
 ghost use Rattle.message.specs.declared.Message.the-variants.{Transfer};
 ghost use Rattle.flat.specs.Flat.{messageFrom, readingOf};
@@ -12,9 +15,11 @@ ghost use Rattle.profile.specs.Profile.{profileOf};
 ghost use Rattle.shown.specs.Value.{shownOf, Exact};
 use flat::Flat;
 use flat::FlatReading;
+use flat_object::FlatObject;
 use message::Written;
 use pool::Verdict;
 use profile::Profile;
+use rewrite::Rewritten;
 use shown::Shown;
 
 #[no_mangle]
@@ -29,6 +34,23 @@ pub extern "C" fn scm_profile_of(bytes: &[u8]) -> Profile
     ensures { λ r. ⌜ r ≡ profileOf (now (bytes .entry)) ⌝ }
 {
     profile::profile_of(bytes)
+}
+
+// The object at a place of a pool.
+#[no_mangle]
+pub extern "C" fn scm_object_at(bytes: &[u8], place: usize) -> FlatObject
+    ensures { λ r. ⌜ r ≡ flatOf place (foundAt (now (bytes .entry)) place) ⌝ }
+{
+    flat_object::object_at(bytes, place)
+}
+
+// A pool taken apart and written again.
+#[no_mangle]
+pub extern "C" fn scm_pool_rewrite(bytes: &[u8], out: &mut [u8]) -> Rewritten
+    ensures { λ r. ⌜ r ≡ rewriteAnswer (now (bytes .entry)) (now (out .entry)) ⌝ }
+    ensures { λ _. ⌜ now (out .exit) ≡ rewriteOut (now (bytes .entry)) (now (out .entry)) ⌝ }
+{
+    rewrite::rewrite(bytes, out)
 }
 
 // What bytes that a side sent say: side 0 is a client, 1 the master.

@@ -1,0 +1,145 @@
+// An object of a pool as a struct of numbers, for C.
+use objects::Found;
+use objects::Kind;
+use pool::BaseHead;
+use pool::FunctionHead;
+use pool::Head;
+use pool::StateHead;
+ghost use mathlib.Core.Path.{_≡_};
+ghost use Rattle.objects.specs.Objects.{foundAt};
+ghost use Rattle.flat_object.specs.Flat.{blank, withBase, withFunction, withState, headFlat, flatOf};
+
+// An object as C has it: numbers only. kind is 0 for a base, 1 for a function, 2 for a state, and 255 where none can be read at the place. The
+// numbers that a kind does not have are 0. standard is the version of the standard; n and m are the labels' lengths, count that of the list.
+#[repr(C)]
+pub struct FlatObject {
+    pub kind: u8,
+    pub place: usize,
+    pub next: usize,
+    pub number: u16,
+    pub standard: u8,
+    pub master: u64,
+    pub mask: u64,
+    pub name: u16,
+    pub picture: u16,
+    pub function: u8,
+    pub trigger: u8,
+    pub attribute: u8,
+    pub minimum: u32,
+    pub maximum: u32,
+    pub offset: u32,
+    pub scale: u32,
+    pub decimals: u8,
+    pub unit: u16,
+    pub state: u8,
+    pub n: u8,
+    pub m: u8,
+    pub count: u8,
+    pub version: [u8; 63],
+    pub configuration: [u8; 63],
+    pub list: [u16; 255],
+}
+
+// An object with no number yet.
+fn blank(kind: u8, place: usize, found: Found) -> FlatObject
+    ensures { λ r. ⌜ r ≡ blank kind place found ⌝ }
+{
+    let object = found.object;
+    let version = object.version;
+    let configuration = object.configuration;
+    let list = object.list;
+    FlatObject {
+        kind,
+        place,
+        next: found.next,
+        number: 0,
+        standard: 0,
+        master: 0,
+        mask: 0,
+        name: 0,
+        picture: 0,
+        function: 0,
+        trigger: 0,
+        attribute: 0,
+        minimum: 0,
+        maximum: 0,
+        offset: 0,
+        scale: 0,
+        decimals: 0,
+        unit: 0,
+        state: 0,
+        n: 0,
+        m: 0,
+        count: 0,
+        version,
+        configuration,
+        list,
+    }
+}
+
+fn with_base(h: BaseHead, mut flat: FlatObject) -> FlatObject
+    ensures { λ r. ⌜ r ≡ withBase h flat ⌝ }
+{
+    flat.number = h.number;
+    flat.standard = h.version;
+    flat.master = h.master;
+    flat.mask = h.mask;
+    flat.name = h.name;
+    flat.picture = h.picture;
+    flat.n = h.n;
+    flat.m = h.m;
+    flat.count = h.o;
+    flat
+}
+
+fn with_function(h: FunctionHead, mut flat: FlatObject) -> FlatObject
+    ensures { λ r. ⌜ r ≡ withFunction h flat ⌝ }
+{
+    flat.number = h.number;
+    flat.function = h.function;
+    flat.trigger = h.trigger;
+    flat.attribute = h.attribute;
+    flat.minimum = h.minimum;
+    flat.maximum = h.maximum;
+    flat.offset = h.offset;
+    flat.scale = h.scale;
+    flat.decimals = h.decimals;
+    flat.unit = h.unit;
+    flat.name = h.name;
+    flat.picture = h.picture;
+    flat.count = h.s;
+    flat
+}
+
+fn with_state(h: StateHead, mut flat: FlatObject) -> FlatObject
+    ensures { λ r. ⌜ r ≡ withState h flat ⌝ }
+{
+    flat.number = h.number;
+    flat.state = h.state;
+    flat.name = h.name;
+    flat.picture = h.picture;
+    flat
+}
+
+fn head_flat(head: Head, place: usize, found: Found) -> FlatObject
+    ensures { λ r. ⌜ r ≡ headFlat head place found ⌝ }
+{
+    match head {
+        Head::Base(b) => with_base(b, blank(0, place, found)),
+        Head::Function(f) => with_function(f, blank(1, place, found)),
+        Head::State(s) => with_state(s, blank(2, place, found)),
+    }
+}
+
+// The object at a place of a pool.
+pub fn object_at(pool: &[u8], place: usize) -> FlatObject
+    ensures { λ r. ⌜ r ≡ flatOf place (foundAt (now (pool .entry)) place) ⌝ }
+{
+    let found = objects::object_at(pool, place);
+    let object = found.object;
+    let kind = object.kind;
+    match kind {
+        Kind::Of(head) => head_flat(head, place, found),
+        Kind::Refused(_) => blank(255, place, found),
+    }
+}

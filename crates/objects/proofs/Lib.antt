@@ -1,0 +1,6 @@
+pub mod Stores
+pub mod Limits
+pub mod Cells
+pub mod Passed
+pub mod Fields
+pub mod Trips
