@@ -199,8 +199,9 @@ pub fn read(side: u32, bytes: &[u8]) -> (u8, Message) {
     if bytes.is_empty() {
         return refused;
     }
-    let Some(clause) = CLAUSES.iter().find(|c| c.side == side && c.code == bytes[0]) else {
-        return refused;
+    let clause = match CLAUSES.iter().find(|c| c.side == side && c.code == bytes[0]) {
+        Some(clause) => clause,
+        None => return refused,
     };
     let mut label = Vec::new();
     match clause.length {
@@ -240,8 +241,9 @@ pub fn read(side: u32, bytes: &[u8]) -> (u8, Message) {
 
 /// The number that writing gives, and the bytes, into `room` bytes of lent output.
 pub fn write(message: &Message, room: usize) -> (u8, Vec<u8>) {
-    let Some(clause) = CLAUSES.iter().find(|c| c.kind == message.kind) else {
-        return if room < 8 { (1, Vec::new()) } else { (4, Vec::new()) };
+    let clause = match CLAUSES.iter().find(|c| c.kind == message.kind) {
+        Some(clause) => clause,
+        None => return if room < 8 { (1, Vec::new()) } else { (4, Vec::new()) },
     };
     let length = match clause.length {
         Is(n) => n,
