@@ -112,7 +112,7 @@ functionsFault s ps functions = first (firstFault (absentFault s ps 1) functions
 unfoldable pub statesFaults : List ℕ → List ℕ → List ℕ → Verdict
 statesFaults s ps functions = first (firstFault (statesFault s ps 4) functions) (firstFault (statesFault s ps 7) functions)
 
--- "lists are taken in list order, functions in the base's order"
+-- "lists are taken in list order, functions in the base's order"; "Objects nobody lists are kept and mean nothing.": only listed numbers are looked at
 unfoldable pub listsFault : List ℕ → List ℕ → List ℕ → Verdict
 listsFault s ps functions = first (functionsFault s ps functions) (statesFaults s ps functions)
 

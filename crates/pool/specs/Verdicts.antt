@@ -6,7 +6,7 @@ use lib.Dec.{eqb}
 use Rattle.octets.specs.Pick.{pick}
 use Rattle.pool.specs.declared.Verdict.{Verdict}
 
--- a D.9 code and the number of the object it is about
+-- a D.9 code and the number of the object it is about. "Code 08 is never given: a pool holds no strings.": no definition here makes an 8
 abbrev pub verdict : ℕ → ℕ → Verdict
 verdict c o = record { code = c; object = o }
 
