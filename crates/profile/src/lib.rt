@@ -143,7 +143,8 @@ pub fn kept(pool: &[u8]) -> Profile
     kept_at(pool, ps, chain, b)
 }
 
-fn blank_profile() -> Profile
+// What is kept where there is no pool.
+pub fn blank_profile() -> Profile
     ensures { λ r. ⌜ r ≡ blankProfile ⌝ }
 {
     let version = blank();

@@ -13,9 +13,21 @@ ghost use Rattle.message.specs.declared.Message.the-variants.{Transfer};
 ghost use Rattle.flat.specs.Flat.{messageFrom, readingOf};
 ghost use Rattle.profile.specs.Profile.{profileOf};
 ghost use Rattle.shown.specs.Value.{shownOf, Exact};
+ghost use Rattle.sequence.specs.Sequence.{lengthOf};
+ghost use Rattle.master.specs.States.{newMaster};
+ghost use Rattle.master.specs.Clients.{onOf, offOf, attachOf, wantOf, wantOut, reportOf, lostOf};
+ghost use Rattle.master.specs.Recording.{recordOf, stopOf, cancelOf, indicationOf, indicationOut};
+ghost use Rattle.master.specs.Playback.{startOf, abortOf, clientAbortOf, answerOf, answerOut};
+ghost use Rattle.master.specs.Tick.{tickOf, tickOut};
+ghost use Rattle.master.specs.Readers.{stateOf, slotView, stepView, clientView};
 use flat::Flat;
 use flat::FlatReading;
 use flat_object::FlatObject;
+use master::Master;
+use master::Outcome;
+use master::readers::ClientView;
+use master::readers::SlotView;
+use master::readers::StepView;
 use message::Written;
 use pool::Verdict;
 use profile::Profile;
@@ -91,4 +103,181 @@ pub extern "C" fn scm_shown_bits(value: u32, offset: i32, scale: u32) -> Shown
     ensures exact { λ r. ⌜ Exact value offset (ofBits binary32 scale) (r .value) ⌝ }
 {
     shown::shown_bits(value, offset, scale)
+}
+
+// ---- The master: each event takes the old state and gives back the new one.
+
+#[no_mangle]
+pub extern "C" fn scm_master_new() -> Master
+    ensures { λ r. ⌜ r ≡ newMaster ⌝ }
+{
+    Master::new()
+}
+
+#[no_mangle]
+pub extern "C" fn scm_master_on(master: Master) -> Outcome
+    ensures { λ r. ⌜ r ≡ onOf master ⌝ }
+{
+    master.on()
+}
+
+#[no_mangle]
+pub extern "C" fn scm_master_off(master: Master) -> Outcome
+    ensures { λ r. ⌜ r ≡ offOf master ⌝ }
+{
+    master.off()
+}
+
+#[no_mangle]
+pub extern "C" fn scm_master_attach(master: Master, slot: usize, name: u64, pool: &[u8]) -> Outcome
+    ensures { λ r. ⌜ r ≡ attachOf master slot name (now (pool .entry)) ⌝ }
+{
+    master.attach(slot, name, pool)
+}
+
+// E.2 out.
+#[no_mangle]
+pub extern "C" fn scm_master_enable(master: Master, slot: usize, out: &mut [u8]) -> Outcome
+    ensures { λ r. ⌜ r ≡ wantOf 1 master slot (length (now (out .entry))) ⌝ }
+    ensures { λ _. ⌜ now (out .exit) ≡ wantOut 1 master slot (now (out .entry)) ⌝ }
+{
+    master.enable(slot, out)
+}
+
+// E.2 out.
+#[no_mangle]
+pub extern "C" fn scm_master_disable(master: Master, slot: usize, out: &mut [u8]) -> Outcome
+    ensures { λ r. ⌜ r ≡ wantOf 0 master slot (length (now (out .entry))) ⌝ }
+    ensures { λ _. ⌜ now (out .exit) ≡ wantOut 0 master slot (now (out .entry)) ⌝ }
+{
+    master.disable(slot, out)
+}
+
+#[no_mangle]
+pub extern "C" fn scm_master_report(master: Master, slot: usize, report: u32) -> Outcome
+    ensures { λ r. ⌜ r ≡ reportOf master slot report ⌝ }
+{
+    master.report(slot, report)
+}
+
+#[no_mangle]
+pub extern "C" fn scm_master_lost(master: Master, slot: usize) -> Outcome
+    ensures { λ r. ⌜ r ≡ lostOf master slot ⌝ }
+{
+    master.lost(slot)
+}
+
+#[no_mangle]
+pub extern "C" fn scm_master_record(master: Master) -> Outcome
+    ensures { λ r. ⌜ r ≡ recordOf master ⌝ }
+{
+    master.record()
+}
+
+#[no_mangle]
+pub extern "C" fn scm_master_stop(master: Master) -> Outcome
+    ensures { λ r. ⌜ r ≡ stopOf master ⌝ }
+{
+    master.stop()
+}
+
+#[no_mangle]
+pub extern "C" fn scm_master_cancel(master: Master) -> Outcome
+    ensures { λ r. ⌜ r ≡ cancelOf master ⌝ }
+{
+    master.cancel()
+}
+
+// E.4 in, E.5 out.
+#[no_mangle]
+pub extern "C" fn scm_master_indication(
+    master: Master,
+    slot: usize,
+    msg: &[u8],
+    out: &mut [u8],
+) -> Outcome
+    ensures { λ r. ⌜ r ≡ indicationOf master slot (now (msg .entry)) (length (now (out .entry))) ⌝ }
+    ensures { λ _. ⌜ now (out .exit) ≡ indicationOut master slot (now (msg .entry)) (now (out .entry)) ⌝ }
+{
+    master.indication(slot, msg, out)
+}
+
+// E.3 in.
+#[no_mangle]
+pub extern "C" fn scm_master_client_abort(master: Master, slot: usize, msg: &[u8]) -> Outcome
+    ensures { λ r. ⌜ r ≡ clientAbortOf master slot (now (msg .entry)) ⌝ }
+{
+    master.client_abort(slot, msg)
+}
+
+#[no_mangle]
+pub extern "C" fn scm_master_start(master: Master) -> Outcome
+    ensures { λ r. ⌜ r ≡ startOf master ⌝ }
+{
+    master.start()
+}
+
+#[no_mangle]
+pub extern "C" fn scm_master_abort(master: Master) -> Outcome
+    ensures { λ r. ⌜ r ≡ abortOf master ⌝ }
+{
+    master.abort()
+}
+
+// The frames out: the slot and E.6.
+#[no_mangle]
+pub extern "C" fn scm_master_tick(master: Master, mm: u32, out: &mut [u8]) -> Outcome
+    ensures { λ r. ⌜ r ≡ tickOf master mm (length (now (out .entry))) ⌝ }
+    ensures { λ _. ⌜ now (out .exit) ≡ tickOut master mm (now (out .entry)) ⌝ }
+{
+    master.tick(mm, out)
+}
+
+// E.7 in, E.8 out.
+#[no_mangle]
+pub extern "C" fn scm_master_answer(
+    master: Master,
+    slot: usize,
+    msg: &[u8],
+    out: &mut [u8],
+) -> Outcome
+    ensures { λ r. ⌜ r ≡ answerOf master slot (now (msg .entry)) (length (now (out .entry))) ⌝ }
+    ensures { λ _. ⌜ now (out .exit) ≡ answerOut master slot (now (msg .entry)) (now (out .entry)) ⌝ }
+{
+    master.answer(slot, msg, out)
+}
+
+#[no_mangle]
+pub extern "C" fn scm_master_state(master: Master) -> u8
+    ensures { λ r. ⌜ r ≡ stateOf master ⌝ }
+{
+    master.state()
+}
+
+#[no_mangle]
+pub extern "C" fn scm_master_slot(master: Master, slot: usize) -> SlotView
+    ensures { λ r. ⌜ r ≡ slotView master slot ⌝ }
+{
+    master.slot(slot)
+}
+
+#[no_mangle]
+pub extern "C" fn scm_master_step_count(master: Master) -> usize
+    ensures { λ r. ⌜ r ≡ lengthOf (master .sequence) ⌝ }
+{
+    master.step_count()
+}
+
+#[no_mangle]
+pub extern "C" fn scm_master_step(master: Master, i: usize) -> StepView
+    ensures { λ r. ⌜ r ≡ stepView master i ⌝ }
+{
+    master.step(i)
+}
+
+#[no_mangle]
+pub extern "C" fn scm_master_client(master: Master, slot: usize) -> ClientView
+    ensures { λ r. ⌜ r ≡ clientView master slot ⌝ }
+{
+    master.client(slot)
 }

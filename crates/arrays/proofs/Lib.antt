@@ -1,0 +1,5 @@
+pub mod Walk
+pub mod Fill
+pub mod Most
+pub mod Pad
+pub mod Every

@@ -1,0 +1,3 @@
+pub mod Pools
+pub mod Frames
+pub mod Reading

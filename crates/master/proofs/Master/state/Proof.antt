@@ -1,0 +1,19 @@
+-- `master::Master::state` meets its contract: by its test.
+-- Assumes nothing.
+use mathlib.Core.Path.{sym}
+use native.Mathlib.Omega.{arith}
+use Rattle.master.specs.Readers.{stateOf}
+use native.Mathlib.Nat.{min-eq-left, min-eq-right}
+use Rattle.master.proofs.Master.state.Statement.{statement}
+use Rattle.master.proofs.Master.state.Tie as tie
+
+returns : tie.Need-returns
+unfolding stateOf
+returns c = sym (min-eq-left (omega arith))
+
+returns-2 : tie.Need-returns-2
+unfolding stateOf
+returns-2 c = sym (min-eq-right (omega arith))
+
+pub state-spec : {M : Type 1} → statement M
+state-spec = tie.close (tie.spec returns returns-2)

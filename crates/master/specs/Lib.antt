@@ -1,0 +1,8 @@
+pub mod Numbers
+pub mod States
+pub mod Clients
+pub mod Messages
+pub mod Recording
+pub mod Playback
+pub mod Tick
+pub mod Readers

@@ -1,0 +1,43 @@
+-- `playback::checks::first_client_check` meets its contract: the slots from here on decide.
+-- Assumes nothing.
+use mathlib.Core.Path.{_≡_, sym, _∙_}
+use mathlib.Core.List.{flatMap}
+use Prim.Native.Nat.{_-_}
+use native.Mathlib.Omega.{arith}
+use lib.ListN.{length}
+use borrow.Author.Needs.{needs}
+use Rattle.playback.specs.Pairs.{pairs}
+use Rattle.playback.specs.Verification.{firstFailing, clientChecks}
+use Rattle.playback.proofs.Failing.{left-of, start-of, end-of, hit-of, miss-of, client-numbered}
+use Rattle.playback.proofs.checks.first_client_check.Statement.{statement}
+use Rattle.playback.proofs.checks.first_client_check.Tie as tie
+
+abbrev Inv-loop : tie.InvT-loop
+Inv-loop slots clients i₀ i =
+    (length slots ≡ 8) × (length clients ≡ 8) × (firstFailing (flatMap clientChecks (pairs slots clients)) ≡ left-of clientChecks slots clients 8 i)
+
+abbrev μ-loop : tie.MeasureT-loop
+μ-loop slots clients i₀ i = 8 - i
+
+loop-holds : tie.Need-loop-holds Inv-loop μ-loop
+loop-holds c = (search needs, search needs, start-of _ _ _ _ (search needs) (search needs))
+
+returns : tie.Need-returns Inv-loop μ-loop
+returns c =
+    let v = c .before .before .before .before .before .loop .inv in
+    sym (v .2 ∙ hit-of _ _ _ _ (v .0) (v .1) _ _ _ _ (omega arith) (c .before .client-check .ensures) (c .if1 .taken))
+
+loop-again : tie.Need-loop-again Inv-loop μ-loop
+loop-again c =
+    let v = c .before .before .before .before .before .loop .inv in
+    (v .0, v .1, v .2 ∙ miss-of _ _ _ _ (v .0) (v .1) _ _ _ _ (omega arith) (c .before .client-check .ensures) client-numbered (c .if1 .left))
+
+returns-2 : tie.Need-returns-2 Inv-loop μ-loop
+returns-2 c = let v = c .before .loop .inv in sym (v .2 ∙ end-of _ _ _ _ _ (omega arith))
+
+pub first-client-check-spec : {M : Type 1} → statement M
+first-client-check-spec =
+    tie.close
+    (tie.spec
+    Inv-loop μ-loop loop-holds (λ c. search needs) (λ c. search needs) (λ c. search needs) (λ c. search needs) (λ c κs. search needs)
+    returns (λ c. search needs) (λ c. search needs) loop-again returns-2)

@@ -1,0 +1,45 @@
+-- 01, "Verification and playback", the frames of a tick: "then each sent, unanswered step is written in one frame, oldest first. A tick fills a frame
+-- buffer of 576 bytes, nine to a frame: slot, then the eight of E.6; the rest are 00. Bytes past 576 stay. The frame count is the number of sent,
+-- unanswered steps after the tick."
+-- Assumes nothing: these are definitions.
+use Prim.Native.Nat.{ℕ, suc, _/_, _%_}
+use mathlib.Core.Bool.{Bool, cond}
+use mathlib.Core.List.{List, [], _∷_, _++_}
+use lib.ListN.{take}
+use Rattle.arrays.specs.Arrays.{padTo}
+use Rattle.sequence.specs.declared.Step.{Step}
+use Rattle.playback.specs.declared.Sent.{Sent}
+use Rattle.playback.specs.declared.Playback.{Playback}
+use Rattle.playback.specs.State.{isUnanswered}
+
+-- "slot, then the eight of E.6": code 33, function, state, TAN, and the value, least significant byte first
+abbrev pub frameOf : Step → ℕ → List ℕ
+frameOf s tan =
+    s .slot ∷ 0x33 ∷ s .function ∷ s .state ∷ tan
+    ∷ s .value % 256 ∷ s .value / 256 % 256 ∷ s .value / 65536 % 256 ∷ s .value / 16777216 % 256 ∷ []
+
+-- what was sent is written at this tick: "each sent, unanswered step is written"
+abbrev pub isWritten : Sent → Bool
+isWritten c = isUnanswered c
+
+-- "written in one frame, oldest first": of what was sent and its steps, in order
+abbrev pub framed : List Sent → List Step → List ℕ
+framed [] ss = []
+framed (c ∷ cs) [] = []
+framed (c ∷ cs) (s ∷ ss) = cond (isWritten c) (frameOf s (c .tan) ++ framed cs ss) (framed cs ss)
+
+-- how many they are
+abbrev pub waiting : List Sent → ℕ
+waiting [] = 0
+waiting (c ∷ cs) = cond (isWritten c) (suc (waiting cs)) (waiting cs)
+
+-- "a frame buffer of 576 bytes, nine to a frame .. the rest are 00"
+unfoldable pub filledOf : ℕ → List Step → List Sent → List ℕ
+filledOf sent steps commands = padTo 0 576 (framed (take sent commands) steps)
+
+-- "The frame count is the number of sent, unanswered steps after the tick."
+unfoldable pub waitingOf : ℕ → List Sent → ℕ
+waitingOf sent commands = waiting (take sent commands)
+
+unfoldable pub framesOf : Playback → List Step → List ℕ
+framesOf p steps = filledOf (p .sent) steps (p .commands)

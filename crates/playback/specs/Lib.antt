@@ -1,0 +1,7 @@
+pub mod State
+pub mod Pairs
+pub mod Verification
+pub mod Tick
+pub mod Frames
+pub mod Answer
+pub mod Cases

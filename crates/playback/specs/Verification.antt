@@ -1,0 +1,98 @@
+-- 01, "Verification and playback": "Start, from ready: 7; then for each slot of the sequence, lowest first, 8, 9 and 10 before the next slot; then by
+-- step 11; then by slot 12. NAMEs agree if they agree on every bit set in the loaded pool's mask. The master NAME must agree in all 64 bits."
+-- Assumes nothing: these are definitions.
+use Prim.Native.Nat.{ℕ}
+use mathlib.Core.Bool.{Bool, true, false, not, _&&_}
+use mathlib.Core.List.{List, [], _∷_, _++_, flatMap}
+use lib.Bits.{bitAnd}
+use lib.Dec.{eqb, ltb}
+use lib.ListN.{getD}
+use Rattle.octets.specs.Pick.{pick}
+use Rattle.octets.specs.declared.label.Label.{Label}
+use Rattle.profile.specs.Profile.{trigger, hasState}
+use Rattle.profile.specs.declared.Profile.{Profile}
+use Rattle.client.specs.Clients.{ready, isEnabled, blankSlot}
+use Rattle.client.specs.Records.{isUsed}
+use Rattle.client.specs.declared.Slot.{Slot}
+use Rattle.client.specs.declared.Client.{Client}
+use Rattle.sequence.specs.Sequence.{stepsOf}
+use Rattle.sequence.specs.declared.Step.{Step}
+use Rattle.sequence.specs.declared.Sequence.{Sequence}
+use Rattle.playback.specs.Pairs.{pairs}
+
+-- ---- a list of checks, each with its number
+
+-- whether it holds, and the number that is given where it does not
+abbrev pub Check : Type 0
+Check = Bool × ℕ
+
+-- the number of the first check that does not hold, and 0 where all hold
+unfoldable pub firstFailing : List Check → ℕ
+firstFailing [] = 0
+firstFailing (c ∷ cs) = let later : ℕ = firstFailing cs in pick (c .0) later (c .1)
+
+-- ---- NAMEs
+
+-- "agree on every bit set in the .. mask"
+abbrev pub agreeUnder : ℕ → ℕ → ℕ → Bool
+agreeUnder mask a b = eqb (bitAnd a mask) (bitAnd b mask)
+
+-- the NAMEs of a client, loaded and recorded: "NAMEs agree if they agree on every bit set in the loaded pool's mask. The master NAME must agree in all
+-- 64 bits."
+abbrev pub namesAgree : Slot → Client → Bool
+namesAgree s c = agreeUnder (s .profile .mask) (s .name) (c .name) && eqb (s .profile .master) (c .master)
+
+-- ---- labels
+
+abbrev pub sameBytes : List ℕ → List ℕ → Bool
+sameBytes [] [] = true
+sameBytes [] (y ∷ ys) = false
+sameBytes (x ∷ xs) [] = false
+sameBytes (x ∷ xs) (y ∷ ys) = eqb x y && sameBytes xs ys
+
+-- the length and every byte
+unfoldable pub sameLabel : Label → Label → Bool
+sameLabel a b = eqb (a .length) (b .length) && sameBytes (a .bytes) (b .bytes)
+
+-- "10 a label differs": both are the version label and the configuration label
+unfoldable pub labelsAgree : Slot → Client → Bool
+labelsAgree s c = sameLabel (s .profile .version) (c .version) && sameLabel (s .profile .configuration) (c .configuration)
+
+-- ---- pools
+
+-- the pool lists the function, with this state; a state is at most 63
+unfoldable pub isListed : Profile → ℕ → ℕ → Bool
+isListed pool function state = ltb state 64 && not (eqb (trigger pool function) 0) && hasState pool function state
+
+-- in the pool loaded in the step's slot; above slot 7 there is none
+unfoldable pub isInPool : List Slot → Step → Bool
+isInPool slots s = ltb (s .slot) 8 && isListed (getD slots (s .slot) blankSlot .profile) (s .function) (s .state)
+
+-- ---- the checks of a start
+
+-- "for each slot of the sequence": a slot whose client has a record in it; for any other there is no check
+unfoldable pub ofSequence : Client → List Check → List Check
+ofSequence c checks = pick (isUsed c) checks []
+
+-- "8 a client of the sequence is not enabled", "9 a NAME differs", "10 a label differs"
+unfoldable pub clientChecks : Slot × Client → List Check
+clientChecks x = ofSequence (x .1) ((isEnabled (x .0), 8) ∷ (namesAgree (x .0) (x .1), 9) ∷ (labelsAgree (x .0) (x .1), 10) ∷ [])
+
+-- "11 function or state not in the loaded pool"
+unfoldable pub stepChecks : List Slot → Step → List Check
+stepChecks slots s = (isInPool slots s, 11) ∷ []
+
+-- "12 a client is not reporting ready"
+unfoldable pub readyChecks : Slot × Client → List Check
+readyChecks x = ofSequence (x .1) ((eqb (x .0 .report) ready, 12) ∷ [])
+
+-- "7; then for each slot of the sequence, lowest first, 8, 9 and 10 before the next slot; then by step 11; then by slot 12"
+unfoldable pub checksOf : List Slot → Sequence → List Check
+checksOf slots q =
+    (not (eqb (q .count) 0), 7)
+    ∷ flatMap clientChecks (pairs slots (q .clients))
+    ++ (flatMap (stepChecks slots) (stepsOf q)
+    ++ flatMap readyChecks (pairs slots (q .clients)))
+
+unfoldable pub verifyOf : List Slot → Sequence → ℕ
+verifyOf slots q = firstFailing (checksOf slots q)

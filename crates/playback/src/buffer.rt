@@ -1,0 +1,60 @@
+// The frames of a tick in a buffer of 576 bytes, nine to a frame.
+ghost use mathlib.Core.Path.{_≡_};
+ghost use Prim.Native.Nat.{_+_, _≤_, _%_};
+ghost use lib.ListN.{replicate};
+ghost use lib.Seq.{sets};
+ghost use Rattle.playback.specs.Frames.{frameOf, isWritten, filledOf, waitingOf};
+use crate::Sent;
+use sequence::Step;
+
+fn low(x: u32) -> u8
+    ensures { λ r. ⌜ r ≡ x % 256 ⌝ }
+{
+    (x % 256) as u8
+}
+
+// What was sent is written at this tick.
+fn is_written(c: Sent) -> bool
+    ensures { λ r. ⌜ r ≡ isWritten c ⌝ }
+{
+    c.answer == 0
+}
+
+// One frame, written from a place on.
+fn put_frame(out: &mut [u8; 576], at: usize, step: Step, tan: u8)
+    requires { ⌜ at + 9 ≤ 576 ⌝ }
+    ensures { λ _. ⌜ now (out .exit) ≡ sets (now (out .entry)) at (frameOf step tan) ⌝ }
+{
+    out[at] = step.slot;
+    out[at + 1] = 0x33;
+    out[at + 2] = step.function;
+    out[at + 3] = step.state;
+    out[at + 4] = tan;
+    out[at + 5] = low(step.value);
+    out[at + 6] = low(step.value / 256);
+    out[at + 7] = low(step.value / 65536);
+    out[at + 8] = low(step.value / 16777216);
+}
+
+// The frames of what is written, one after the other, into a buffer of zeros; how many they are.
+pub fn fill(commands: [Sent; 64], sent: usize, steps: [Step; 64], out: &mut [u8; 576]) -> u32
+    requires { ⌜ now out ≡ replicate 576 0 ⌝ }
+    ensures { λ r. ⌜ (r ≡ waitingOf sent commands) × (now (out .exit) ≡ filledOf sent steps commands) ⌝ }
+{
+    let mut n: usize = 0;
+    let mut i: usize = 0;
+    while i < 64 {
+        if i >= sent {
+            return n as u32;
+        }
+        let c = commands[i];
+        if !is_written(c) {
+            i += 1;
+            continue;
+        }
+        put_frame(out, n * 9, steps[i], c.tan);
+        n += 1;
+        i += 1;
+    }
+    n as u32
+}

@@ -1,0 +1,307 @@
+// Playback: verification in its order, which step leaves at a tick, the frames of a tick, and what an answer does.
+ghost use mathlib.Core.Path.{_≡_};
+ghost use mathlib.Core.List.{_++_};
+ghost use Prim.Native.Nat.{_≤_, _<_};
+ghost use lib.ListN.{length, drop};
+ghost use Rattle.playback.specs.State.{blankSent, blankPlayback};
+ghost use Rattle.playback.specs.Verification.{verifyOf};
+ghost use Rattle.playback.specs.Tick.{isLate, someLate, doesStop, isDue, doesLeave, nextTan, countedOf, leftOf, tickOf};
+ghost use Rattle.playback.specs.Frames.{framesOf, waitingOf};
+ghost use Rattle.playback.specs.Answer.{isAllDone, withAnswer, answeredOf, hasFunction};
+use arrays::more;
+use client::Slot;
+use message::Reply;
+use message::fields::number_of;
+use sequence::Sequence;
+use sequence::Step;
+
+mod answers;
+mod buffer;
+mod checks;
+
+// A step that has left: its TAN, its answer (0 none, 2 done; any other number is started), and the tick at which it first left.
+#[repr(C)]
+pub struct Sent {
+    pub tan: u8,
+    pub answer: u8,
+    pub left: u32,
+}
+
+// ticks and distance are counted since the start; the first sent of commands belong to the steps that have left. Unused cells are blank.
+#[repr(C)]
+pub struct Playback {
+    pub ticks: u32,
+    pub distance: u32,
+    pub sent: usize,
+    pub commands: [Sent; 64],
+}
+
+// ended is 1 where it aborts, else 0.
+#[repr(C)]
+pub struct Ticked {
+    pub ended: u8,
+    pub tan: u8,
+    pub playback: Playback,
+}
+
+// number is 0 or 15; over: 0 it goes on, 1 all steps are done, 2 it aborts.
+#[repr(C)]
+pub struct Answered {
+    pub number: u8,
+    pub over: u8,
+    pub playback: Playback,
+}
+
+// A playback that starts.
+pub fn blank_playback() -> Playback
+    ensures { λ r. ⌜ r ≡ blankPlayback ⌝ }
+{
+    let sent = Sent {
+        tan: 0,
+        answer: 0,
+        left: 0,
+    };
+    let commands = [sent; 64];
+    Playback {
+        ticks: 0,
+        distance: 0,
+        sent: 0,
+        commands,
+    }
+}
+
+// 0, or the number of the first check that does not hold: 7 to 12.
+pub fn verify(slots: [Slot; 8], sequence: Sequence) -> u8
+    ensures { λ r. ⌜ r ≡ verifyOf slots sequence ⌝ }
+{
+    if sequence.count == 0 {
+        return 7;
+    }
+    let clients = sequence.clients;
+    let steps = sequence.steps;
+    let client = checks::first_client_check(slots, clients);
+    if client != 0 {
+        return client;
+    }
+    let step = checks::first_step_check(slots, steps, sequence.count);
+    if step != 0 {
+        return step;
+    }
+    checks::first_ready_check(slots, clients)
+}
+
+// ---- a tick
+
+fn wide(x: u32) -> u64
+    ensures { λ r. ⌜ (r ≡ x) × (r < 4294967296) ⌝ }
+{
+    x as u64
+}
+
+fn is_late(c: Sent, ticks: u32) -> bool
+    ensures { λ r. ⌜ r ≡ isLate ticks c ⌝ }
+{
+    (c.answer == 0) & (wide(c.left) + 16 <= wide(ticks))
+}
+
+fn some_late(commands: [Sent; 64], sent: usize, ticks: u32) -> bool
+    ensures { λ r. ⌜ r ≡ someLate ticks sent commands ⌝ }
+{
+    let mut i: usize = 0;
+    while i < 64 {
+        if i >= sent {
+            return false;
+        }
+        if is_late(commands[i], ticks) {
+            return true;
+        }
+        i += 1;
+    }
+    false
+}
+
+fn is_due(s: Step, ticks: u32, distance: u32) -> bool
+    ensures { λ r. ⌜ r ≡ isDue s ticks distance ⌝ }
+{
+    ((s.distance == 0) & (s.mark <= ticks)) | ((s.distance != 0) & (s.mark <= distance))
+}
+
+fn next_tan(tan: u8) -> u8
+    ensures { λ r. ⌜ r ≡ nextTan tan ⌝ }
+{
+    if tan >= 255 {
+        return 0;
+    }
+    tan + 1
+}
+
+impl Playback {
+    // The tick and its millimetres are counted.
+    fn counted(mut self, mm: u32) -> Playback
+        ensures { λ r. ⌜ r ≡ countedOf self mm ⌝ }
+    {
+        self.ticks = more(self.ticks, 1);
+        self.distance = more(self.distance, mm);
+        self
+    }
+
+    fn does_stop(self) -> bool
+        ensures { λ r. ⌜ r ≡ doesStop self ⌝ }
+    {
+        let commands = self.commands;
+        (self.ticks >= 36000) | some_late(commands, self.sent, self.ticks)
+    }
+
+    fn does_leave(self, steps: [Step; 64], count: usize) -> bool
+        ensures { λ r. ⌜ r ≡ doesLeave self steps count ⌝ }
+    {
+        let next = self.sent;
+        if next >= 64 {
+            return false;
+        }
+        (next < count) & is_due(steps[next], self.ticks, self.distance)
+    }
+
+    // The next step leaves with this TAN.
+    fn leave(mut self, tan: u8) -> Playback
+        requires { ⌜ self .sent < 64 ⌝ }
+        ensures { λ r. ⌜ r ≡ leftOf self tan ⌝ }
+    {
+        let next = self.sent;
+        self.commands[next] = Sent {
+            tan,
+            answer: 0,
+            left: self.ticks,
+        };
+        self.sent = next + 1;
+        self
+    }
+
+    // A tick, of so many millimetres, after a last command with this TAN.
+    pub fn tick(self, sequence: Sequence, tan: u8, mm: u32) -> Ticked
+        ensures { λ r. ⌜ r ≡ tickOf self sequence tan mm ⌝ }
+    {
+        let playback = self.counted(mm);
+        if playback.does_stop() {
+            return Ticked {
+                ended: 1,
+                tan,
+                playback,
+            };
+        }
+        let steps = sequence.steps;
+        if !playback.does_leave(steps, sequence.len()) {
+            return Ticked {
+                ended: 0,
+                tan,
+                playback,
+            };
+        }
+        let next = next_tan(tan);
+        Ticked {
+            ended: 0,
+            tan: next,
+            playback: playback.leave(next),
+        }
+    }
+}
+
+// ---- the frames of a tick
+
+// The frames of the sent, unanswered steps, 576 bytes of the lent buffer; how many they are.
+pub fn frames(playback: Playback, sequence: Sequence, out: &mut [u8]) -> u32
+    requires { ⌜ 576 ≤ length (now out) ⌝ }
+    ensures { λ r. ⌜ (r ≡ waitingOf (playback .sent) (playback .commands)) × (now (out .exit) ≡ framesOf playback (sequence .steps) ++ drop 576 (now (out .entry))) ⌝ }
+{
+    let commands = playback.commands;
+    let steps = sequence.steps;
+    let mut filled = [0u8; 576];
+    let count = buffer::fill(commands, playback.sent, steps, &mut filled);
+    bytes::copy(&filled, out);
+    count
+}
+
+// ---- an answer
+
+impl Playback {
+    fn is_all_done(self, count: usize) -> bool
+        ensures { λ r. ⌜ r ≡ isAllDone self count ⌝ }
+    {
+        let commands = self.commands;
+        (count <= self.sent) & !answers::some_undone(commands, self.sent)
+    }
+
+    fn with_answer(mut self, i: usize, answer: u8) -> Playback
+        requires { ⌜ i < 64 ⌝ }
+        ensures { λ r. ⌜ r ≡ withAnswer self i answer ⌝ }
+    {
+        let mut c = self.commands[i];
+        c.answer = answer;
+        self.commands[i] = c;
+        self
+    }
+
+    // E.7: the client of a slot answers a command.
+    pub fn answer(self, sequence: Sequence, slot: u8, reply: Reply) -> Answered
+        ensures { λ r. ⌜ r ≡ answeredOf self sequence slot reply ⌝ }
+    {
+        let steps = sequence.steps;
+        let commands = self.commands;
+        let i = answers::find(
+            steps,
+            commands,
+            self.sent,
+            slot,
+            reply.tan,
+            reply.function,
+            reply.state,
+        );
+        if i >= 64 {
+            return Answered {
+                number: 15,
+                over: 0,
+                playback: self,
+            };
+        }
+        let c = self.commands[i];
+        if c.answer == 2 {
+            return Answered {
+                number: 0,
+                over: 0,
+                playback: self,
+            };
+        }
+        let given = reply.status;
+        let status = number_of(given);
+        if answers::is_error(status, reply.error) {
+            return Answered {
+                number: 0,
+                over: 2,
+                playback: self,
+            };
+        }
+        let playback = self.with_answer(i, answers::mark_of(status));
+        if playback.is_all_done(sequence.len()) {
+            return Answered {
+                number: 0,
+                over: 1,
+                playback,
+            };
+        }
+        Answered {
+            number: 0,
+            over: 0,
+            playback,
+        }
+    }
+}
+
+// ---- an E.4 of status 11 in playback
+
+// Some step of the sequence is this slot's function.
+pub fn has_function(sequence: Sequence, slot: u8, function: u8) -> bool
+    ensures { λ r. ⌜ r ≡ hasFunction sequence slot function ⌝ }
+{
+    let steps = sequence.steps;
+    answers::some_function(steps, sequence.count, slot, function)
+}

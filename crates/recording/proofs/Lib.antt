@@ -1,0 +1,3 @@
+pub mod Errors
+pub mod Stayed
+pub mod Records

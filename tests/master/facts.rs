@@ -1,0 +1,335 @@
+//! The names of what an event met, from the model before and after it.
+
+use crate::event::Event;
+use crate::kept;
+use crate::messages::{self, Status};
+use crate::model::{Client, Master, Outcome, Report, State, LAST_TICK, SLOTS};
+use crate::playback::{Answered, Playback};
+use crate::recording::{Mark, Progress};
+use crate::verification;
+
+pub fn state(state: &State) -> &'static str {
+    match state {
+        State::Inactive => "inactive",
+        State::Ready => "ready",
+        State::Record(_) => "record",
+        State::RecordComplete(_) => "record complete",
+        State::Playback(_) => "playback",
+        State::Abort => "abort",
+    }
+}
+
+fn playback(master: &Master) -> Option<&Playback> {
+    match &master.state {
+        State::Playback(playback) => Some(playback),
+        _ => None,
+    }
+}
+
+/// The error of an E.5 and its rule.
+pub fn answer(event: &Event, outcome: &Outcome) -> Option<&'static str> {
+    match (event, outcome) {
+        (Event::Indication { .. }, Ok(done)) => Some(done.rule),
+        _ => None,
+    }
+}
+
+pub fn transition(event: &Event, before: &Master, after: &Master) -> Option<String> {
+    let (from, to) = (state(&before.state), state(&after.state));
+    if from == to {
+        return None;
+    }
+    Some(format!("{from} to {to} by {}", cause(event, before)))
+}
+
+fn cause(event: &Event, before: &Master) -> String {
+    let wanted = |slot: usize| before.client(slot).map_or(false, |client| client.wanted);
+    match event {
+        Event::Report { slot, .. } if !wanted(*slot) => "report of a client not wanted".to_string(),
+        Event::Report { report, .. } => format!("report {}", report_name(*report)),
+        Event::Tick { .. } if ticks(before) + 1 == LAST_TICK => "tick 36,000".to_string(),
+        Event::Indication { message, .. } => format!("E.4 of status {:02b}", message[2] / 64),
+        Event::Answer { message, .. } if message[3] == 0 => format!("answer of status {:02b}", message[2] / 64),
+        Event::Answer { message, .. } => format!("answer of status {:02b}, error", message[2] / 64),
+        _ => event.name().to_string(),
+    }
+}
+
+fn report_name(report: u32) -> &'static str {
+    match Report::of(report) {
+        Some(Report::Disabled) => "disabled",
+        Some(Report::Ready) => "ready",
+        Some(Report::Record) => "record",
+        Some(Report::Playback) => "playback",
+        Some(Report::Abort) => "abort",
+        None => "of no known state",
+    }
+}
+
+/// The ticks counted so far.
+fn ticks(master: &Master) -> u32 {
+    match (master.recording(), playback(master)) {
+        (Some(recording), _) => recording.ticks,
+        (_, Some(playback)) => playback.ticks,
+        _ => 0,
+    }
+}
+
+pub fn others(event: &Event, before: &Master, after: &Master, outcome: &Outcome) -> Vec<String> {
+    let mut names = vec![format!("{} in {}", event.name(), state(&before.state))];
+    names.extend(rule(event, outcome));
+    names.extend(lent(event));
+    match outcome {
+        Ok(_) => accepted(event, before, after, &mut names),
+        Err(refused) => {
+            let later = applies(event, before).into_iter().filter(|&number| number != refused.number);
+            names.extend(later.map(|number| format!("{} {} before {number}", event.name(), refused.number)));
+            if refused.number == 6 {
+                names.push(format!("pool refused with {:02X}", refused.code));
+            }
+        }
+    }
+    if before.state == State::Abort && after.state == State::Abort {
+        names.push(format!("abort stays at {}", event.name()));
+    }
+    names
+}
+
+fn rule(event: &Event, outcome: &Outcome) -> Option<String> {
+    let (number, rule) = match outcome {
+        Ok(done) => (0, done.rule),
+        Err(refused) => (refused.number, refused.rule),
+    };
+    if rule.is_empty() || answer(event, outcome).is_some() {
+        return None;
+    }
+    Some(format!("{} {number}: {rule}", event.name()))
+}
+
+fn lent(event: &Event) -> Option<String> {
+    let needed = match event {
+        Event::Enable { .. } | Event::Disable { .. } | Event::Indication { .. } | Event::Answer { .. } => 8,
+        Event::Tick { .. } => 576,
+        _ => return None,
+    };
+    let room = match event.room() {
+        0 => "nothing",
+        room if room + 1 == needed => "one too few",
+        room if room == needed => "what it needs",
+        room if room > needed => "more",
+        _ => return None,
+    };
+    Some(format!("{} lent {room}", event.name()))
+}
+
+// The numbers that apply to an event, in no order.
+
+fn applies(event: &Event, before: &Master) -> Vec<u8> {
+    let mut numbers = Vec::new();
+    let mut number = |applies: bool, number: u8| {
+        if applies {
+            numbers.push(number);
+        }
+    };
+    let ready = before.state == State::Ready;
+    let inactive = before.state == State::Inactive;
+    let empty = |slot: usize| before.client(slot).is_none();
+    match event {
+        Event::Attach { slot, name, pool } => {
+            let named = before.slots.iter().flatten().any(|client| client.name == *name);
+            number(*slot >= SLOTS || !empty(*slot) || named, 3);
+            number(!ready, 2);
+            number(kept::accept(pool).is_err(), 6);
+        }
+        Event::Enable { slot, room } | Event::Disable { slot, room } => {
+            number(*room < 8, 1);
+            number(empty(*slot), 3);
+            number(!ready, 2);
+        }
+        Event::Report { slot, report } => {
+            number(Report::of(*report).is_none(), 4);
+            number(empty(*slot), 3);
+            number(inactive, 2);
+        }
+        Event::Lost { slot } => {
+            number(empty(*slot), 3);
+            number(inactive, 2);
+        }
+        Event::Indication { slot, message, room } => {
+            number(*room < 8, 1);
+            number(messages::read_indication(message).is_none(), 4);
+            number(empty(*slot), 3);
+            number(inactive, 2);
+        }
+        Event::ClientAbort { slot, message } => {
+            number(messages::read_client_abort(message).is_none(), 4);
+            number(empty(*slot), 3);
+            number(inactive, 2);
+        }
+        Event::Tick { millimetres, room } => {
+            number(*room < 576, 1);
+            number(*millimetres > 65_535, 4);
+            number(inactive, 2);
+        }
+        Event::Answer { slot, message, room } => {
+            number(*room < 8, 1);
+            number(messages::read_answer(message).is_none(), 4);
+            number(empty(*slot), 3);
+            number(inactive, 2);
+        }
+        Event::Start if ready => return start_applies(before),
+        _ => {}
+    }
+    numbers
+}
+
+fn start_applies(before: &Master) -> Vec<u8> {
+    let mut numbers = Vec::new();
+    for (&slot, recorded) in &before.sequence.clients {
+        match before.client(slot) {
+            Some(client) => {
+                numbers.extend(if client.enabled() { None } else { Some(8) });
+                numbers.extend(verification::names_agree(recorded, client).err().map(|refused| refused.number));
+                numbers.extend(verification::labels_agree(recorded, client).err().map(|refused| refused.number));
+                numbers.extend(before.reports_ready(slot).err().map(|refused| refused.number));
+            }
+            None => numbers.push(8),
+        }
+    }
+    let known = |slot: usize| before.client(slot).is_some();
+    let steps = before.sequence.steps.iter().filter(|step| known(step.slot));
+    numbers.extend(steps.filter_map(|step| before.known(step).err()).map(|refused| refused.number));
+    numbers
+}
+
+// What an accepted event met.
+
+fn accepted(event: &Event, before: &Master, after: &Master, names: &mut Vec<String>) {
+    let mut name = |name: &str| names.push(name.to_string());
+    match event {
+        Event::Enable { slot, .. } if before.client(*slot).map_or(false, |it| it.wanted) => name("enabled again"),
+        Event::Disable { slot, .. } if before.client(*slot).map_or(false, |it| !it.wanted) => name("disabled again"),
+        Event::Cancel if !before.sequence.steps.is_empty() => name("cancelled, the old sequence is kept"),
+        Event::Report { slot, report } => {
+            let client = before.client(*slot).unwrap();
+            reported(client, Report::of(*report).unwrap(), state(&before.state), names);
+        }
+        Event::Tick { millimetres, .. } => ticked(*millimetres, before, after, names),
+        Event::Stop => ended(before, after, names),
+        Event::Indication { message, slot, .. } => {
+            indicated(before, after, *slot, message, names);
+            ended(before, after, names);
+        }
+        Event::Start => started(before, names),
+        Event::Answer { slot, message, .. } => answered(before, *slot, message, names),
+        _ => {}
+    }
+    let none_enabled = after.enabled_clients().next().is_none();
+    if before.state == State::Abort && after.state == State::Ready && none_enabled {
+        names.push("abort left with no enabled client".to_string());
+    }
+}
+
+fn reported(client: &Client, report: Report, state: &str, names: &mut Vec<String>) {
+    let first = client.report == Report::Disabled;
+    match (client.wanted, first, report) {
+        (true, true, Report::Disabled) => names.push("a wanted client repeats disabled".to_string()),
+        (true, true, _) => {
+            names.push(format!("first report of a wanted client in {state}"));
+            if report == Report::Abort {
+                names.push(format!("first report of a wanted client in {state} is abort"));
+            }
+        }
+        (false, _, Report::Disabled) => names.push("a client not wanted reports disabled".to_string()),
+        (false, _, _) => names.push("report of a client not wanted is taken".to_string()),
+        (true, false, _) => {}
+    }
+}
+
+fn ticked(millimetres: u32, before: &Master, after: &Master, names: &mut Vec<String>) {
+    if millimetres == 65_535 {
+        names.push("tick of 65535 mm".to_string());
+    }
+    if (before.tan, after.tan) == (255, 0) {
+        names.push("TAN 255 to 0".to_string());
+    }
+    if let Some(playback) = playback(after) {
+        let unanswered = playback.commands.iter().filter(|command| command.answered == Answered::Not).count();
+        match unanswered {
+            0 => names.push("no frame in a tick of playback".to_string()),
+            16 => names.push("16 frames in a tick, the most there can be".to_string()),
+            _ => {}
+        }
+    }
+}
+
+fn indicated(before: &Master, after: &Master, slot: usize, message: &[u8], names: &mut Vec<String>) {
+    let held = |master: &Master| master.recording().map_or(0, |recording| recording.steps.len());
+    if held(after) > held(before) {
+        let function = after.client(slot).and_then(|client| client.pool.function(message[1]));
+        names.push(format!("step of trigger {}", function.unwrap().trigger));
+    }
+    let recording = match before.recording() {
+        Some(recording) => recording,
+        None => return,
+    };
+    let known = |taken: &crate::recording::Taken| taken.step.slot == slot && taken.tan == message[3];
+    let failed = recording.steps.iter().any(|taken| taken.progress == Progress::Failed);
+    let begins = message[2] / 64 <= Status::Started.bits() && !recording.steps.iter().any(known);
+    if matches!(before.state, State::Record(_)) && recording.steps.len() == 64 && failed && begins {
+        names.push("64 held, a failed one among them".to_string());
+    }
+}
+
+/// A stop, or the last E.4 of record complete.
+fn ended(before: &Master, after: &Master, names: &mut Vec<String>) {
+    if before.recording().is_none() || after.state != State::Ready {
+        return;
+    }
+    let mut name = |met: bool, name: &str| {
+        if met {
+            names.push(name.to_string());
+        }
+    };
+    let clients = before.recording().map_or(0, |recording| recording.clients.len());
+    let (old, kept) = (before.sequence.steps.len(), before.sequence != after.sequence);
+    name(old > 0 && !kept, "no step stays, the old sequence is kept");
+    name(kept && old > 0, "a new sequence replaces an old one");
+    name(kept && after.sequence.clients.len() < clients, "a client's record is dropped");
+    name(kept && after.sequence.clients.len() == clients, "a client's record stays");
+    name(kept && after.sequence.steps.len() == 64, "sequence of 64 steps");
+}
+
+fn started(before: &Master, names: &mut Vec<String>) {
+    for (&slot, recorded) in &before.sequence.clients {
+        if before.client(slot).map(|client| client.name) != Some(recorded.name) {
+            names.push("started, a NAME differs outside the mask".to_string());
+        }
+    }
+    for step in &before.sequence.steps {
+        let function = before.client(step.slot).and_then(|client| client.pool.function(step.function));
+        match (step.mark, function.map(|function| function.trigger)) {
+            (Mark::Ticks(_), Some(2)) => names.push("started, a time mark though the trigger is now 2".to_string()),
+            (Mark::Millimetres(_), Some(trigger)) if trigger != 2 => {
+                names.push("started, a distance mark though the trigger is now another".to_string());
+            }
+            _ => {}
+        }
+    }
+    if before.enabled_clients().any(|client| client.report != Report::Ready) {
+        names.push("started, another enabled client is not ready".to_string());
+    }
+}
+
+fn answered(before: &Master, slot: usize, message: &[u8], names: &mut Vec<String>) {
+    let playback = match playback(before) {
+        Some(playback) => playback,
+        None => return,
+    };
+    for (command, step) in playback.commands.iter().zip(&before.sequence.steps) {
+        let it = step.slot == slot && command.tan == message[4];
+        if it && command.answered == Answered::Not && playback.ticks - command.left == 15 {
+            names.push("first answer after 15 ticks".to_string());
+        }
+    }
+}

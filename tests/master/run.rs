@@ -1,0 +1,209 @@
+//! A run: every event is done on the library and on the model, and all that they give is compared.
+
+use crate::coverage::Coverage;
+use crate::event::Event;
+use crate::generate::Random;
+use crate::library;
+use crate::model::{Master, Outcome};
+use crate::promises::Promises;
+use crate::render::{view, Renderer};
+use std::collections::VecDeque;
+
+/// The lent bytes stand at the head of so many, of which no other may change.
+pub const BUFFER: usize = 640;
+/// So many of the last events are printed with a difference.
+const REMEMBERED: usize = 16;
+/// The readers are compared after one in so many events.
+const READERS: usize = 150;
+
+/// What the library gives besides the new state.
+#[derive(Clone, Copy, PartialEq, Debug)]
+pub struct Given {
+    pub number: u8,
+    pub code: u8,
+    pub object: u16,
+    pub count: u32,
+}
+
+pub struct Run {
+    pub model: Master,
+    pub coverage: Coverage,
+    pub events: u64,
+    /// The bytes lent at the last event and those behind them, as the library left them.
+    pub lent: Vec<u8>,
+    library: Box<library::Master>,
+    wanted: Box<library::Master>,
+    renderer: Renderer,
+    promises: Promises,
+    random: Random,
+    seed: u64,
+    event: u64,
+    last: VecDeque<Event>,
+}
+
+impl Run {
+    pub fn new() -> Run {
+        Run {
+            model: Master::new(),
+            coverage: Coverage::new(),
+            events: 0,
+            lent: vec![0; BUFFER],
+            library: Box::new(library::NO_MASTER),
+            wanted: Box::new(library::NO_MASTER),
+            renderer: Renderer::new(),
+            promises: Promises::new(),
+            random: Random::new(0),
+            seed: 0,
+            event: 0,
+            last: VecDeque::new(),
+        }
+    }
+
+    /// A new master, for a scenario that comes from this seed.
+    pub fn begin(&mut self, seed: u64) {
+        self.seed = seed;
+        self.event = 0;
+        self.last.clear();
+        self.random = Random::new(!seed);
+        self.promises = Promises::new();
+        self.model = Master::new();
+        *self.library = library::new();
+        self.compare_states();
+        self.compare_readers();
+    }
+
+    pub fn event(&mut self, event: Event) -> Given {
+        self.event += 1;
+        self.events += 1;
+        self.remember(&event);
+        let room = event.room();
+        self.fill();
+        let before = self.lent.clone();
+        let handed = event.handed().to_vec();
+        let mut wanted_bytes = before.clone();
+        let model_before = self.model.clone();
+        let wanted = event.on_model(&mut self.model, &mut wanted_bytes[..room]);
+        let outcome = event.on_library(&self.library, &mut self.lent[..room]);
+        let given = Given { number: outcome.number, code: outcome.code, object: outcome.object, count: outcome.count };
+        self.compare("numbers", given, numbers(&wanted));
+        self.compare("bytes to be read", event.handed(), &handed);
+        if self.lent != wanted_bytes {
+            let place = (0..BUFFER).find(|&place| self.lent[place] != wanted_bytes[place]).unwrap();
+            self.compare(&format!("lent byte {place}"), self.lent[place], wanted_bytes[place]);
+        }
+        let broken = self.promises.check(&event, &self.library, &outcome, &before, &self.lent);
+        if let Some(promise) = broken {
+            self.stop(&format!("promise broken: {promise}"));
+        }
+        *self.library = outcome.master;
+        self.compare_states();
+        if self.random.once_in(READERS) {
+            self.compare_readers();
+        }
+        if let Err(unknown) = self.coverage.event(&event, &model_before, &self.model, &wanted) {
+            self.stop(&format!("no rule allows: {unknown}"));
+        }
+        given
+    }
+
+    fn fill(&mut self) {
+        for chunk in self.lent.chunks_mut(8) {
+            chunk.copy_from_slice(&self.random.number().to_le_bytes()[..chunk.len()]);
+        }
+    }
+
+    fn remember(&mut self, event: &Event) {
+        if self.last.len() == REMEMBERED {
+            self.last.pop_front();
+        }
+        self.last.push_back(event.clone());
+    }
+
+    fn compare<T: PartialEq + std::fmt::Debug>(&self, what: &str, given: T, wanted: T) {
+        if given != wanted {
+            self.stop(&format!("{what}: the library gives {given:?}, the model {wanted:?}"));
+        }
+    }
+
+    fn compare_states(&mut self) {
+        self.renderer.render(&self.model, &mut self.wanted);
+        if *self.library != *self.wanted {
+            self.stop(&first_difference(&format!("{:#?}", self.library), &format!("{:#?}", self.wanted)));
+        }
+    }
+
+    fn compare_readers(&mut self) {
+        let (library, model) = (&*self.library, &self.model);
+        let beyond = [8, 9, 255, 256, 257, 1 << 32, usize::MAX];
+        self.compare("reader of the state", library::state(library), view::state(model));
+        for slot in (0..8).chain(beyond) {
+            self.compare(&format!("reader of slot {slot}"), library::slot(library, slot), view::slot(model, slot));
+            self.compare(
+                &format!("reader of client {slot}"),
+                library::client(library, slot),
+                view::client(model, slot),
+            );
+        }
+        let count = model.sequence.steps.len();
+        self.compare("reader of the step count", library::step_count(library), count);
+        for place in (0..=count).chain([63, 64, 65, 255, 256, 1 << 32, usize::MAX]) {
+            self.compare(&format!("reader of step {place}"), library::step(library, place), view::step(model, place));
+        }
+        self.coverage.readers(count);
+    }
+
+    pub fn stop(&self, why: &str) -> ! {
+        println!("master: seed {}, event {}: {why}", self.seed, self.event);
+        for (place, event) in self.last.iter().enumerate() {
+            println!("  event {}: {event}", self.event as usize + 1 + place - self.last.len());
+        }
+        println!("  model after it: state {:?}, TAN {}", self.model.state, self.model.tan);
+        std::process::exit(1)
+    }
+}
+
+fn numbers(wanted: &Outcome) -> Given {
+    match wanted {
+        Ok(done) => Given { number: 0, code: 0, object: 0, count: done.count },
+        Err(refused) => Given { number: refused.number, code: refused.code, object: refused.object, count: 0 },
+    }
+}
+
+/// The first field that differs, from both states as they are printed, one line a field: its place is the last line of
+/// each smaller indent above it.
+fn first_difference(given: &str, wanted: &str) -> String {
+    let mut path: Vec<(usize, String, usize)> = Vec::new();
+    for (line, other) in given.lines().zip(wanted.lines()) {
+        let indent = line.len() - line.trim_start().len();
+        let mut place = 0;
+        while path.last().map_or(false, |(outer, _, _)| *outer >= indent) {
+            let (outer, _, index) = path.pop().unwrap();
+            place = if outer == indent { index + 1 } else { 0 };
+        }
+        if line.trim_start().starts_with(|c: char| "]})".contains(c)) {
+            place = place.saturating_sub(1);
+        }
+        path.push((indent, field_name(line), place));
+        if line != other {
+            let names: Vec<String> = path.iter().skip(1).map(|(_, name, index)| named(name, *index)).collect();
+            let values = (line.trim().trim_end_matches(','), other.trim().trim_end_matches(','));
+            return format!("{}: the library gives {}, the model {}", names.join("."), values.0, values.1);
+        }
+    }
+    "no field".to_string()
+}
+
+/// The name before the colon; none for an element of an array.
+fn field_name(line: &str) -> String {
+    match line.split_once(": ") {
+        Some((name, _)) => name.trim().to_string(),
+        None => String::new(),
+    }
+}
+
+fn named(name: &str, index: usize) -> String {
+    if name.is_empty() {
+        return format!("[{index}]");
+    }
+    name.to_string()
+}

@@ -1,0 +1,83 @@
+//! The model's verification: what is checked before a playback starts. "Start, from ready: 7; then for each slot of the
+//! sequence, lowest first, 8, 9 and 10 before the next slot; then by step 11; then by slot 12."
+
+use crate::model::{self, Client, Master, Outcome, Refused, Report, State};
+use crate::playback::Playback;
+use crate::recording::{Identity, Step};
+
+impl Master {
+    pub fn start(&mut self) -> Outcome {
+        self.ready()?;
+        if self.sequence.steps.is_empty() {
+            return model::refuse(7);
+        }
+        for (&slot, recorded) in &self.sequence.clients {
+            self.same(slot, recorded)?;
+        }
+        for step in &self.sequence.steps {
+            self.known(step)?;
+        }
+        for &slot in self.sequence.clients.keys() {
+            self.reports_ready(slot)?;
+        }
+        self.state = State::Playback(Playback::default());
+        model::done()
+    }
+
+    /// "8, 9 and 10 before the next slot"
+    pub fn same(&self, slot: usize, recorded: &Identity) -> Result<(), Refused> {
+        let client = self.present(slot)?;
+        names_agree(recorded, client)?;
+        labels_agree(recorded, client)
+    }
+
+    /// "a client of the sequence is not enabled"
+    fn present(&self, slot: usize) -> Result<&Client, Refused> {
+        match self.client(slot) {
+            None => model::refuse_by(8, "empty"),
+            Some(client) if !client.wanted => model::refuse_by(8, "not wanted"),
+            Some(client) if !client.enabled() => model::refuse_by(8, "disabled"),
+            Some(client) => Ok(client),
+        }
+    }
+
+    /// "function or state not in the loaded pool"
+    pub fn known(&self, step: &Step) -> Result<(), Refused> {
+        let function = self.client(step.slot).and_then(|client| client.pool.function(step.function));
+        match function {
+            None => model::refuse_by(11, "function"),
+            Some(function) if !function.states.contains(&step.state) => model::refuse_by(11, "state"),
+            Some(_) => Ok(()),
+        }
+    }
+
+    /// "a client is not reporting ready"
+    pub fn reports_ready(&self, slot: usize) -> Result<(), Refused> {
+        match self.client(slot) {
+            Some(client) if client.report == Report::Ready => Ok(()),
+            _ => model::refuse(12),
+        }
+    }
+}
+
+/// "NAMEs agree if they agree on every bit set in the loaded pool's mask. The master NAME must agree in all 64 bits."
+pub fn names_agree(recorded: &Identity, client: &Client) -> Result<(), Refused> {
+    let mask = client.pool.mask;
+    if recorded.name & mask != client.name & mask {
+        return model::refuse_by(9, "NAME");
+    }
+    if recorded.master_name != client.pool.master_name {
+        return model::refuse_by(9, "master NAME");
+    }
+    Ok(())
+}
+
+pub fn labels_agree(recorded: &Identity, client: &Client) -> Result<(), Refused> {
+    if recorded.version_label != client.pool.version_label {
+        return model::refuse_by(10, "version label");
+    }
+    if recorded.configuration_label != client.pool.configuration_label {
+        return model::refuse_by(10, "configuration label");
+    }
+    Ok(())
+}
