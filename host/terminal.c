@@ -1,4 +1,4 @@
-/* A terminal to try and to copy: it hands pools to the library and says what it answers. */
+/* A terminal to try and to copy: it hands pools and messages to the library, records a plot end and replays it, and says what the library answers. */
 #include <stdio.h>
 #include <string.h>
 
@@ -82,6 +82,78 @@ static void exchange(void)
     }
 }
 
+/* The same drill with a coulter that has one state: function 5, style 10, state 2. 71 bytes. */
+static const uint8_t drill[71] = {
+    0, 0, 0, 2, 13, 13, 13, 13, 13, 13, 13, 13, 255, 255, 255, 255, 255, 255, 255, 255, 1, 0, 2, 0, 1, 1, 1, 'A', 'B', 1, 0,
+    /* function: values from 0 to 1000, offset 0, scale 0.1, one decimal, unit 5; one state, number 2 */
+    1, 0, 1, 5, 1, 2, 0, 0, 0, 0, 232, 3, 0, 0, 0, 0, 0, 0, 205, 204, 204, 61, 1, 5, 0, 3, 0, 4, 0, 1, 2, 0,
+    /* state: number 2, type 2, ID 2 */
+    2, 0, 2, 2, 6, 0, 7, 0,
+};
+
+static void demand(const char *what, uint8_t number)
+{
+    if (number != 0) {
+        printf("%s: refused, number %u\n", what, (unsigned)number);
+    }
+}
+
+/* One tick; the frames that leave are printed. */
+static void tick(scm_master *m, unsigned n, uint32_t mm)
+{
+    uint8_t frames[SCM_FRAMES_BYTES];
+    uint32_t count;
+    char what[32];
+
+    demand("tick", scm_tick(m, mm, frames, sizeof frames, &count));
+    for (uint32_t i = 0; i < count; i++) {
+        const uint8_t *frame = frames + SCM_FRAME_BYTES * i;
+        snprintf(what, sizeof what, "tick %u, slot %u:", n, (unsigned)frame[0]);
+        print_bytes(what, frame + 1, SCM_FRAME_BYTES - 1);
+    }
+}
+
+/* A plot end is recorded: at tick 3 the coulter is lowered, at tick 5 it has its depth. Then it is replayed. */
+static void plot_end(uint8_t depth)
+{
+    static scm_master m;
+    const uint8_t start[8] = {0x32, 0x05, 0x42, 0x00, 0xFF, 0xFF, 0xFF, 0xFF};
+    const uint8_t finish[8] = {0x32, 0x05, 0x82, 0x00, depth, 0x00, 0x00, 0x00};
+    const uint8_t answer[8] = {0x34, 0x05, 0x82, 0x00, 0x01, 0xFF, 0xFF, 0xFF};
+    uint8_t out[SCM_ANSWER_BYTES];
+    uint8_t code;
+    uint16_t object;
+    scm_step_view step;
+
+    scm_init(&m);
+    demand("on", scm_on(&m));
+    demand("attach", scm_attach(&m, 0, UINT64_C(0x0D0D0D0D0D0D0D0D), drill, sizeof drill, &code, &object));
+    demand("enable", scm_enable(&m, 0, out, sizeof out));
+    print_bytes("enable:", out, sizeof out);
+    demand("report", scm_report(&m, 0, SCM_REPORT_READY));
+    demand("record", scm_record(&m));
+    demand("report", scm_report(&m, 0, SCM_REPORT_RECORD));
+    for (unsigned n = 1; n <= 5; n++) {
+        tick(&m, n, 400);
+        if (n == 3 || n == 5) {
+            demand("indication", scm_indication(&m, 0, n == 3 ? start : finish, 8, out, sizeof out));
+            print_bytes(n == 3 ? "started, answered:" : "finished, answered:", out, sizeof out);
+        }
+    }
+    demand("stop", scm_stop(&m));
+    demand("step", scm_step(&m, 0, &step));
+    printf("recorded: function %u, state %u, value %u, mark %u\n", (unsigned)step.step.function, (unsigned)step.step.state,
+           (unsigned)step.step.value, (unsigned)step.step.mark);
+    demand("report", scm_report(&m, 0, SCM_REPORT_READY));
+    demand("start", scm_start(&m));
+    for (unsigned n = 1; n <= 4; n++) {
+        tick(&m, n, 400);
+    }
+    demand("answer", scm_answer(&m, 0, answer, sizeof answer, out, sizeof out));
+    print_bytes("done, acknowledged:", out, sizeof out);
+    printf("the master is %s\n", scm_state(&m) == SCM_READY ? "ready" : "not ready");
+}
+
 int main(void)
 {
     uint8_t altered[sizeof least];
@@ -102,5 +174,7 @@ int main(void)
     exchange();
     show(240);
     show(220);
+    plot_end(240);
+    plot_end(220);
     return 0;
 }

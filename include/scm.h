@@ -224,6 +224,307 @@ static inline uint8_t scm_shown(uint32_t value, int32_t offset, float scale, dou
     return r.number;
 }
 
+/* ---- The master: clients, states, recording and playback
+
+   The host owns the master's memory, one struct for each master, and hands it to each call. A call gives a number of document 01; with every number but 0 the
+   master and every lent byte are as they were. Set it up with scm_init, and change it by the calls only. */
+
+/* scm_state, as F.2 numbers them. */
+enum scm_states { SCM_INACTIVE = 0, SCM_READY = 1, SCM_RECORD = 2, SCM_RECORD_COMPLETE = 3, SCM_PLAYBACK = 4, SCM_ABORT = 5 };
+
+/* What a client reports, as F.3 numbers them. */
+enum scm_reports { SCM_REPORT_DISABLED = 0, SCM_REPORT_READY = 1, SCM_REPORT_RECORD = 2, SCM_REPORT_PLAYBACK = 4, SCM_REPORT_ABORT = 5 };
+
+/* The least lengths of lent output: an answer (E.2, E.5, E.8), and the frames of a tick, nine bytes each: the slot, then E.6. */
+#define SCM_ANSWER_BYTES 8u
+#define SCM_FRAME_BYTES  9u
+#define SCM_FRAMES_BYTES 576u
+
+/* A client's slot: taken and wanted are 0 or 1. An empty slot is all 0. */
+typedef struct scm_slot_state {
+    uint8_t taken;
+    uint8_t wanted;
+    uint8_t report;
+    uint64_t name;
+    scm_profile profile;
+} scm_slot_state;
+
+/* What a sequence keeps of a client; used is 0 or 1. */
+typedef struct scm_client_record {
+    uint8_t used;
+    uint64_t name;
+    uint64_t master;
+    scm_label version;
+    scm_label configuration;
+} scm_client_record;
+
+/* A step: distance is 1 where the mark is in millimetres, else it is in ticks. value is what the client sent, all 32 bits. */
+typedef struct scm_sequence_step {
+    uint8_t slot;
+    uint8_t function;
+    uint8_t state;
+    uint8_t distance;
+    uint32_t value;
+    uint32_t mark;
+} scm_sequence_step;
+
+/* A step while it is recorded; status is 0 one-shot, 1 open, 2 done, 3 failed. */
+typedef struct scm_taken_step {
+    scm_sequence_step step;
+    uint8_t tan;
+    uint8_t status;
+} scm_taken_step;
+
+/* A command that has left; answer is 0 none, 1 started, 2 done; left is the tick at which it first left. */
+typedef struct scm_sent_step {
+    uint8_t tan;
+    uint8_t answer;
+    uint32_t left;
+} scm_sent_step;
+
+/* Used cells come first, clients stand by slot, unused cells are 0. */
+typedef struct scm_sequence {
+    size_t count;
+    scm_sequence_step steps[64];
+    scm_client_record clients[8];
+} scm_sequence;
+
+typedef struct scm_recording {
+    uint32_t ticks;
+    uint32_t distance;
+    size_t count;
+    scm_taken_step steps[64];
+    scm_client_record clients[8];
+} scm_recording;
+
+typedef struct scm_playback {
+    uint32_t ticks;
+    uint32_t distance;
+    size_t sent;
+    scm_sent_step commands[64];
+} scm_playback;
+
+typedef struct scm_master {
+    uint8_t state;
+    uint8_t tan;
+    scm_slot_state slots[8];
+    scm_sequence sequence;
+    scm_recording recording;
+    scm_playback playback;
+} scm_master;
+
+/* What a call by value gives back. code and object belong to number 6, count to a tick; all else is 0. */
+typedef struct scm_outcome {
+    uint8_t number;
+    uint8_t code;
+    uint16_t object;
+    uint32_t count;
+    scm_master master;
+} scm_outcome;
+
+/* What the readers give: number is 0, or 3 where there is no such slot or step, and then all else is 0. */
+typedef struct scm_slot_view {
+    uint8_t number;
+    uint8_t taken;
+    uint8_t wanted;
+    uint8_t report;
+    uint64_t name;
+} scm_slot_view;
+
+typedef struct scm_step_view {
+    uint8_t number;
+    scm_sequence_step step;
+} scm_step_view;
+
+typedef struct scm_client_view {
+    uint8_t number;
+    scm_client_record client;
+} scm_client_view;
+
+/* The calls by value; the wrappers below are what a host uses. */
+scm_master scm_master_new(void);
+scm_outcome scm_master_on(scm_master master);
+scm_outcome scm_master_off(scm_master master);
+scm_outcome scm_master_attach(scm_master master, size_t slot, uint64_t name, const uint8_t *pool, size_t pool_len);
+scm_outcome scm_master_enable(scm_master master, size_t slot, uint8_t *out, size_t out_len);
+scm_outcome scm_master_disable(scm_master master, size_t slot, uint8_t *out, size_t out_len);
+scm_outcome scm_master_report(scm_master master, size_t slot, uint32_t report);
+scm_outcome scm_master_lost(scm_master master, size_t slot);
+scm_outcome scm_master_record(scm_master master);
+scm_outcome scm_master_stop(scm_master master);
+scm_outcome scm_master_cancel(scm_master master);
+scm_outcome scm_master_indication(scm_master master, size_t slot, const uint8_t *msg, size_t msg_len, uint8_t *out, size_t out_len);
+scm_outcome scm_master_client_abort(scm_master master, size_t slot, const uint8_t *msg, size_t msg_len);
+scm_outcome scm_master_start(scm_master master);
+scm_outcome scm_master_abort(scm_master master);
+scm_outcome scm_master_tick(scm_master master, uint32_t mm, uint8_t *frames, size_t frames_len);
+scm_outcome scm_master_answer(scm_master master, size_t slot, const uint8_t *msg, size_t msg_len, uint8_t *out, size_t out_len);
+uint8_t scm_master_state(scm_master master);
+scm_slot_view scm_master_slot(scm_master master, size_t slot);
+size_t scm_master_step_count(scm_master master);
+scm_step_view scm_master_step(scm_master master, size_t i);
+scm_client_view scm_master_client(scm_master master, size_t slot);
+
+/* A master as it is made: inactive, no client, no sequence, TAN 0. */
+static inline void scm_init(scm_master *m)
+{
+    *m = scm_master_new();
+}
+
+static inline uint8_t scm_taken_over(scm_master *m, const scm_outcome *o)
+{
+    *m = o->master;
+    return o->number;
+}
+
+/* Inactive to ready. 2 when active. */
+static inline uint8_t scm_on(scm_master *m)
+{
+    scm_outcome o = scm_master_on(*m);
+    return scm_taken_over(m, &o);
+}
+
+/* Ready to inactive. 2 outside ready, 13 while an attached client last reported something else than disabled. */
+static inline uint8_t scm_off(scm_master *m)
+{
+    scm_outcome o = scm_master_off(*m);
+    return scm_taken_over(m, &o);
+}
+
+/* A client and its pool fill an empty slot. 3, 2, or 6 with the code of D.9 and the object; with any other number both are 0. */
+static inline uint8_t scm_attach(scm_master *m, size_t slot, uint64_t name, const uint8_t *pool, size_t pool_len, uint8_t *code, uint16_t *object)
+{
+    scm_outcome o = scm_master_attach(*m, slot, name, pool, pool_len);
+    *code = o.code;
+    *object = o.object;
+    return scm_taken_over(m, &o);
+}
+
+/* The client is wanted; E.2 is written, 8 bytes. 1, 3, 2. */
+static inline uint8_t scm_enable(scm_master *m, size_t slot, uint8_t *out, size_t out_len)
+{
+    scm_outcome o = scm_master_enable(*m, slot, out, out_len);
+    return scm_taken_over(m, &o);
+}
+
+/* The client is not wanted any more; E.2 is written, 8 bytes. 1, 3, 2. */
+static inline uint8_t scm_disable(scm_master *m, size_t slot, uint8_t *out, size_t out_len)
+{
+    scm_outcome o = scm_master_disable(*m, slot, out, out_len);
+    return scm_taken_over(m, &o);
+}
+
+/* A client's status report, SCM_REPORT_... 4, 3, 2, 5. */
+static inline uint8_t scm_report(scm_master *m, size_t slot, uint32_t state)
+{
+    scm_outcome o = scm_master_report(*m, slot, state);
+    return scm_taken_over(m, &o);
+}
+
+/* A client's status report has not come in time. 3, 2. */
+static inline uint8_t scm_lost(scm_master *m, size_t slot)
+{
+    scm_outcome o = scm_master_lost(*m, slot);
+    return scm_taken_over(m, &o);
+}
+
+/* Ready to record. 2, 14, 12. */
+static inline uint8_t scm_record(scm_master *m)
+{
+    scm_outcome o = scm_master_record(*m);
+    return scm_taken_over(m, &o);
+}
+
+/* The recording stops: to record complete while a step is open, else to ready. 2. */
+static inline uint8_t scm_stop(scm_master *m)
+{
+    scm_outcome o = scm_master_stop(*m);
+    return scm_taken_over(m, &o);
+}
+
+/* The recording is thrown away; the old sequence stays. 2. */
+static inline uint8_t scm_cancel(scm_master *m)
+{
+    scm_outcome o = scm_master_cancel(*m);
+    return scm_taken_over(m, &o);
+}
+
+/* E.4 in, E.5 out, 8 bytes. 1, 4, 3, 2, 5 (send a NACK). */
+static inline uint8_t scm_indication(scm_master *m, size_t slot, const uint8_t *msg, size_t msg_len, uint8_t *out, size_t out_len)
+{
+    scm_outcome o = scm_master_indication(*m, slot, msg, msg_len, out, out_len);
+    return scm_taken_over(m, &o);
+}
+
+/* E.3 in. 4, 3, 2, 5 (send a NACK). */
+static inline uint8_t scm_client_abort(scm_master *m, size_t slot, const uint8_t *msg, size_t msg_len)
+{
+    scm_outcome o = scm_master_client_abort(*m, slot, msg, msg_len);
+    return scm_taken_over(m, &o);
+}
+
+/* Ready to playback. 2, or the first check that does not hold: 7 to 12. */
+static inline uint8_t scm_start(scm_master *m)
+{
+    scm_outcome o = scm_master_start(*m);
+    return scm_taken_over(m, &o);
+}
+
+/* The operator's word: playback to abort. 2. */
+static inline uint8_t scm_abort(scm_master *m)
+{
+    scm_outcome o = scm_master_abort(*m);
+    return scm_taken_over(m, &o);
+}
+
+/* 100 ms and the millimetres driven in them. Fills 576 bytes with count frames of nine bytes, and 0 after them. 1, 4, 2. */
+static inline uint8_t scm_tick(scm_master *m, uint32_t mm, uint8_t *frames, size_t frames_len, uint32_t *count)
+{
+    scm_outcome o = scm_master_tick(*m, mm, frames, frames_len);
+    *count = o.count;
+    return scm_taken_over(m, &o);
+}
+
+/* E.7 in, E.8 out, 8 bytes. 1, 4, 3, 2, 15. */
+static inline uint8_t scm_answer(scm_master *m, size_t slot, const uint8_t *msg, size_t msg_len, uint8_t *out, size_t out_len)
+{
+    scm_outcome o = scm_master_answer(*m, slot, msg, msg_len, out, out_len);
+    return scm_taken_over(m, &o);
+}
+
+/* The state, SCM_INACTIVE .. SCM_ABORT. */
+static inline uint8_t scm_state(const scm_master *m)
+{
+    return scm_master_state(*m);
+}
+
+/* A slot's NAME, wanted and last report. 3 above 7. */
+static inline uint8_t scm_slot(const scm_master *m, size_t slot, scm_slot_view *view)
+{
+    *view = scm_master_slot(*m, slot);
+    return view->number;
+}
+
+/* How many steps the sequence has. */
+static inline size_t scm_step_count(const scm_master *m)
+{
+    return scm_master_step_count(*m);
+}
+
+/* Step i of the sequence, counted from 0. 3 past the end. */
+static inline uint8_t scm_step(const scm_master *m, size_t i, scm_step_view *view)
+{
+    *view = scm_master_step(*m, i);
+    return view->number;
+}
+
+/* What the sequence keeps of a slot's client; used is 0 where it has no step. 3 above 7. */
+static inline uint8_t scm_client(const scm_master *m, size_t slot, scm_client_view *view)
+{
+    *view = scm_master_client(*m, slot);
+    return view->number;
+}
+
 #ifdef __cplusplus
 }
 #endif
