@@ -20,10 +20,10 @@ use Rattle.playback.specs.Pairs.{pairs}
 use Rattle.playback.specs.Verification.{Check, firstFailing, ofSequence, clientChecks, stepChecks, readyChecks, checksOf, verifyOf}
 use Rattle.playback.proofs.Pairs.{length-pairs, getD-pairs}
 
--- no check has the number 0
+-- the checks' numbers are 7 to 12
 abbrev pub Numbered : List Check → Type 0
 Numbered [] = Unit {0}
-Numbered (c ∷ cs) = (0 < c .1) × Numbered cs
+Numbered (c ∷ cs) = ((7 ≤ c .1) × (c .1 ≤ 12)) × Numbered cs
 
 -- what is found in the first list is found
 pub found : (a b : List Check) → (firstFailing a ≡ 0 → ⊥) → firstFailing (a ++ b) ≡ firstFailing a
@@ -37,7 +37,7 @@ pub passed : (a b : List Check) → Numbered a → firstFailing a ≡ 0 → firs
 unfolding pick firstFailing
 passed [] b k e = refl
 passed ((true, n) ∷ a) b k e = passed a b (k .1) e
-passed ((false, n) ∷ a) b k e = absurd (omega arith)
+passed ((false, n) ∷ a) b k e = absurd (omega (arith, k .0 .0))
 
 pub numbered-append : (a b : List Check) → Numbered a → Numbered b → Numbered (a ++ b)
 numbered-append [] b k l = l
@@ -58,15 +58,24 @@ numbered-of c l k = go (isUsed c)
 
 pub client-numbered : (x : Slot × Client) → Numbered (clientChecks x)
 unfolding clientChecks
-client-numbered x = numbered-of (x .1) _ (omega arith, (omega arith, (omega arith, tt)))
+client-numbered x = numbered-of (x .1) _ ((omega arith, omega arith), ((omega arith, omega arith), ((omega arith, omega arith), tt)))
 
 pub step-numbered : (slots : List Slot) (s : Step) → Numbered (stepChecks slots s)
 unfolding stepChecks
-step-numbered slots s = (omega arith, tt)
+step-numbered slots s = ((omega arith, omega arith), tt)
 
 pub ready-numbered : (x : Slot × Client) → Numbered (readyChecks x)
 unfolding readyChecks
-ready-numbered x = numbered-of (x .1) _ (omega arith, tt)
+ready-numbered x = numbered-of (x .1) _ ((omega arith, omega arith), tt)
+
+pub checks-numbered : (slots : List Slot) (q : Sequence) → Numbered (checksOf slots q)
+unfolding checksOf
+checks-numbered slots q = (
+  (omega arith, omega arith),
+  numbered-append (flatMap clientChecks (pairs slots (q .clients))) _ (numbered-all clientChecks client-numbered (pairs slots (q .clients)))
+      (numbered-append (flatMap (stepChecks slots) (stepsOf q)) _ (numbered-all (stepChecks slots) (step-numbered slots) (stepsOf q))
+      (numbered-all readyChecks ready-numbered (pairs slots (q .clients)))),
+)
 
 -- ---- a loop over the first n cells of an array, each with its checks: what the cells from number i on give
 

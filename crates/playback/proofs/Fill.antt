@@ -6,7 +6,7 @@ use mathlib.Core.List.{List, [], _∷_, _++_, append-nil, append-assoc}
 use Prim.Native.Nat.{ℕ, zero, suc, _+_, _*_, _≤_, _<_}
 use native.Mathlib.Numerals.{add-one}
 use native.Mathlib.Omega.{arith}
-use lib.ListN.{take, drop, length, getD, set, replicate, length-append, length-take}
+use lib.ListN.{take, drop, length, getD, replicate, length-append, length-take}
 use lib.Seq.{take-all, take-length, sets}
 use Rattle.arrays.specs.Arrays.{padTo}
 use Rattle.arrays.proofs.Fill.{pad-none, length-pad, pad-set}

@@ -3,3 +3,8 @@ pub mod Failing
 pub mod Labels
 pub mod Fill
 pub mod Leaves
+pub mod Verifies
+pub mod Agrees
+pub mod Keeps
+pub mod Framing
+pub mod Cases

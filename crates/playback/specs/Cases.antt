@@ -28,13 +28,13 @@ abbrev pub sequenceOf : List Step → Sequence
 sequenceOf l = record { count = length l; steps = padTo blankStep 64 l; clients = replicate 8 blankClient }
 
 -- after the ticks that bring these millimetres, one after the other; none follows one that ends it
-abbrev pub ticked : Sequence → Ticked → List ℕ → Ticked
-ticked q t [] = t
-ticked q t (mm ∷ mms) = pick (eqb (t .ended) 0) (ticked q (tickOf (t .playback) q (t .tan) mm) mms) t
+abbrev pub onward : Sequence → Ticked → List ℕ → Ticked
+onward q t [] = t
+onward q t (mm ∷ mms) = pick (eqb (t .ended) 0) (onward q (tickOf (t .playback) q (t .tan) mm) mms) t
 
 -- the same, from the start of the playback; the TAN before the first command is 0
 abbrev pub played : Sequence → List ℕ → Ticked
-played q mms = ticked q (record { ended = 0; tan = 0; playback = blankPlayback }) mms
+played q mms = onward q (record { ended = 0; tan = 0; playback = blankPlayback }) mms
 
 -- the tick at which each sent step left
 abbrev pub leftAt : Ticked → List ℕ
@@ -44,8 +44,8 @@ leftAt t = map (λ (c : Sent). c .left) (take (t .playback .sent) (t .playback .
 abbrev pub started : Reply
 started = record { function = 5; state = 2; status = Started; error = 0; tan = 1 }
 
-abbrev pub answered : Sequence → Ticked → Ticked
-answered q t = record { ended = answeredOf (t .playback) q 1 started .over; tan = t .tan; playback = answeredOf (t .playback) q 1 started .playback }
+abbrev pub replied : Sequence → Ticked → Ticked
+replied q t = record { ended = answeredOf (t .playback) q 1 started .over; tan = t .tan; playback = answeredOf (t .playback) q 1 started .playback }
 
 pub record Cases : Type 0 where
   -- "Time marks 0, 0, 5 leave at ticks 1, 2, 5."
@@ -53,8 +53,9 @@ pub record Cases : Type 0 where
   -- "Marks 1,000 mm then tick 2, at 400 mm a tick: 3 and 4."
   pub distance : leftAt (played (sequenceOf (marked 1 1000 ∷ marked 0 2 ∷ [])) (replicate 4 400)) ≡ 3 ∷ 4 ∷ []
   -- "A first answer after 15 ticks is in time": the step leaves at tick 1, is answered after tick 16, and tick 17 does not abort
-  pub in-time : let q = sequenceOf (marked 0 0 ∷ []) in ticked q (answered q (played q (replicate 16 0))) (0 ∷ []) .ended ≡ 0
+  pub in-time : let q = sequenceOf (marked 0 0 ∷ []) in onward q (replied q (played q (replicate 16 0))) (0 ∷ []) .ended ≡ 0
   -- "none by tick 16 aborts"
   pub too-late : played (sequenceOf (marked 0 0 ∷ [])) (replicate 17 0) .ended ≡ 1
-  -- until then it is written at every tick
+  -- at tick 16 it goes on, and the step is still written
+  pub goes-on : played (sequenceOf (marked 0 0 ∷ [])) (replicate 16 0) .ended ≡ 0
   pub waits : let t = played (sequenceOf (marked 0 0 ∷ [])) (replicate 16 0) in waitingOf (t .playback .sent) (t .playback .commands) ≡ 1

@@ -4,4 +4,5 @@ pub mod Verification
 pub mod Tick
 pub mod Frames
 pub mod Answer
+pub mod Promises
 pub mod Cases

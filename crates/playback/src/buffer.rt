@@ -39,7 +39,8 @@ fn put_frame(out: &mut [u8; 576], at: usize, step: Step, tan: u8)
 // The frames of what is written, one after the other, into a buffer of zeros; how many they are.
 pub fn fill(commands: [Sent; 64], sent: usize, steps: [Step; 64], out: &mut [u8; 576]) -> u32
     requires { ⌜ now out ≡ replicate 576 0 ⌝ }
-    ensures { λ r. ⌜ (r ≡ waitingOf sent commands) × (now (out .exit) ≡ filledOf sent steps commands) ⌝ }
+    ensures { λ r. ⌜ r ≡ waitingOf sent commands ⌝ }
+    ensures { λ _. ⌜ now (out .exit) ≡ filledOf sent steps commands ⌝ }
 {
     let mut n: usize = 0;
     let mut i: usize = 0;

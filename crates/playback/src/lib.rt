@@ -8,6 +8,8 @@ ghost use Rattle.playback.specs.Verification.{verifyOf};
 ghost use Rattle.playback.specs.Tick.{isLate, someLate, doesStop, isDue, doesLeave, nextTan, countedOf, leftOf, tickOf};
 ghost use Rattle.playback.specs.Frames.{framesOf, waitingOf};
 ghost use Rattle.playback.specs.Answer.{isAllDone, withAnswer, answeredOf, hasFunction};
+ghost use Rattle.playback.specs.Promises.{Verifies, Agrees, Keeps, Framing};
+ghost use Rattle.playback.specs.Cases.{Cases};
 use arrays::more;
 use client::Slot;
 use message::Reply;
@@ -211,7 +213,8 @@ impl Playback {
 // The frames of the sent, unanswered steps, 576 bytes of the lent buffer; how many they are.
 pub fn frames(playback: Playback, sequence: Sequence, out: &mut [u8]) -> u32
     requires { ⌜ 576 ≤ length (now out) ⌝ }
-    ensures { λ r. ⌜ (r ≡ waitingOf (playback .sent) (playback .commands)) × (now (out .exit) ≡ framesOf playback (sequence .steps) ++ drop 576 (now (out .entry))) ⌝ }
+    ensures { λ r. ⌜ r ≡ waitingOf (playback .sent) (playback .commands) ⌝ }
+    ensures { λ _. ⌜ now (out .exit) ≡ framesOf playback (sequence .steps) ++ drop 576 (now (out .entry)) ⌝ }
 {
     let commands = playback.commands;
     let steps = sequence.steps;
@@ -305,3 +308,12 @@ pub fn has_function(sequence: Sequence, slot: u8, function: u8) -> bool
     let steps = sequence.steps;
     answers::some_function(steps, sequence.count, slot, function)
 }
+
+// What holds of the definitions that the contracts above cite.
+pub fn promises()
+    ensures { λ _. ⌜ Verifies ⌝ }
+    ensures { λ _. ⌜ Agrees ⌝ }
+    ensures { λ _. ⌜ Keeps ⌝ }
+    ensures { λ _. ⌜ Framing ⌝ }
+    ensures { λ _. ⌜ Cases ⌝ }
+{}

@@ -3,7 +3,7 @@
 use mathlib.Core.Path.{_≡_, sym, _∙_}
 use Prim.Native.Nat.{_-_}
 use native.Mathlib.Omega.{arith}
-use lib.ListN.{length, take}
+use lib.ListN.{length}
 use borrow.Author.Needs.{needs}
 use Rattle.arrays.specs.Arrays.{some}
 use Rattle.arrays.proofs.Walk.{rest, some-start, some-end, some-past, some-hit, some-miss}
@@ -26,13 +26,13 @@ returns c = sym (c .before .before .loop .inv .1 ∙ some-end _ _ _ _ (c .if1 .t
 
 returns-2 : tie.Need-returns-2 Inv-loop μ-loop
 returns-2 c =
-    let b = c .before .before .before .before in
-    sym (b .before .loop .inv .1 ∙ some-hit _ _ _ _ _ (c .before .before .before .if1 .left) (omega arith) (sym (c .before .is-late .ensures) ∙ c .if2 .taken))
+    let b = c .before .before .before in
+    sym (b .before .before .loop .inv .1 ∙ some-hit _ _ _ _ _ (b .if1 .left) (omega arith) (sym (c .before .is-late .ensures) ∙ c .if2 .taken))
 
 loop-again : tie.Need-loop-again Inv-loop μ-loop
 loop-again c =
-    let b = c .before .before .before .before in
-    (search needs, b .before .loop .inv .1 ∙ some-miss _ _ _ _ _ (c .before .before .before .if1 .left) (omega arith) (sym (c .before .is-late .ensures) ∙ c .if2 .left))
+    let b = c .before .before .before in
+    (search needs, b .before .before .loop .inv .1 ∙ some-miss _ _ _ _ _ (b .if1 .left) (omega arith) (sym (c .before .is-late .ensures) ∙ c .if2 .left))
 
 returns-3 : tie.Need-returns-3 Inv-loop μ-loop
 returns-3 c = sym (c .before .loop .inv .1 ∙ some-past _ _ _ _ (omega arith))

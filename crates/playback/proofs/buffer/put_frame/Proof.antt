@@ -1,4 +1,4 @@
--- `playback::buffer::put_frame` meets its contract.
+-- `playback::buffer::put_frame` meets its contract: nine bytes, one after the other.
 -- Assumes nothing.
 use native.Mathlib.Numerals.{towards-suc}
 use borrow.Author.Needs.{needs}

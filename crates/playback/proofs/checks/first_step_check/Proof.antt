@@ -25,17 +25,17 @@ returns c = sym (c .before .before .loop .inv .1 ∙ end _ _ _ _ (c .if1 .taken)
 
 returns-2 : tie.Need-returns-2 Inv-loop μ-loop
 returns-2 c =
-    let b = c .before .before .before .before in
+    let b = c .before .before .before in
     sym
-    (b .before .loop .inv .1
-    ∙ hit _ _ _ _ _ _ (c .before .before .before .if1 .left) (omega arith) (c .before .step-check .ensures) (c .if2 .taken))
+    (b .before .before .loop .inv .1
+    ∙ hit _ _ _ _ _ _ (b .if1 .left) (omega arith) (c .before .step-check .ensures) (c .if2 .taken))
 
 loop-again : tie.Need-loop-again Inv-loop μ-loop
 loop-again c =
-    let b = c .before .before .before .before in (
+    let b = c .before .before .before in (
       search needs,
-      b .before .loop .inv .1
-          ∙ miss _ _ _ (step-numbered _) _ _ _ (c .before .before .before .if1 .left) (omega arith) (c .before .step-check .ensures) (c .if2 .left),
+      b .before .before .loop .inv .1
+          ∙ miss _ _ _ (step-numbered _) _ _ _ (b .if1 .left) (omega arith) (c .before .step-check .ensures) (c .if2 .left),
     )
 
 returns-3 : tie.Need-returns-3 Inv-loop μ-loop

@@ -1,0 +1,108 @@
+-- What it means that two NAMEs agree under a mask, and that two labels agree.
+-- Assumes nothing.
+use Prim.Native.Nat.{ℕ, zero, suc, _+_, _*_, _/_, _%_, _^_, _<_, min}
+use mathlib.Core.Path.{_≡_, refl, sym, _∙_}
+use mathlib.Core.Bool.{Bool, true, false, _&&_, true≢false}
+use mathlib.Core.List.{List, [], _∷_}
+use native.Mathlib.Omega.{arith}
+use native.Mathlib.Nat.{pow-suc, div-one}
+use borrow.Author.Tests.{eqb-true, eqb-false, eq-eqb}
+use lib.Bits.{bitAnd, and-step, and-shr, and-le-r}
+use lib.Dec.{eqb}
+use lib.Pow.{shr-shr}
+use Rattle.octets.specs.Bits.{hasBit}
+use Rattle.octets.specs.declared.label.Label.{Label}
+use Rattle.client.specs.declared.Slot.{Slot}
+use Rattle.client.specs.declared.Client.{Client}
+use Rattle.playback.specs.Verification.{agreeUnder, namesAgree, sameBytes, sameLabel}
+use Rattle.playback.specs.Promises.{SameNames, Agrees}
+
+-- ---- bits
+
+and-odd : (a b : ℕ) → bitAnd a b % 2 ≡ min (a % 2) (b % 2)
+and-odd a b = rw (and-step a b) (omega arith)
+
+-- digit k of a bitAnd
+and-digit : (a b k : ℕ) → bitAnd a b / 2 ^ k % 2 ≡ min (a / 2 ^ k % 2) (b / 2 ^ k % 2)
+and-digit a b k = rw (and-shr a b k) (and-odd _ _)
+
+-- numbers with the same digits are the same
+digits : (n a b : ℕ) → a < 2 ^ n → b < 2 ^ n → ((k : ℕ) → k < n → a / 2 ^ k % 2 ≡ b / 2 ^ k % 2) → a ≡ b
+digits zero a b h k e = omega arith
+digits (suc n) a b h k e =
+    let p : 2 ^ suc n ≡ 2 ^ n * 2 = pow-suc 2 n in
+    let z : a % 2 ≡ b % 2 = simp div-one at (e 0 (omega arith)) in
+    let r : a / 2 ≡ b / 2 = digits n (a / 2) (b / 2) (omega arith) (omega arith)
+    (λ j l. rw (shr-shr a 1 j, shr-shr b 1 j) (e (1 + j) (omega arith))) in
+    omega arith
+
+same-digit : (x y : ℕ) → x < 2 → y < 2 → eqb x 1 ≡ eqb y 1 → x ≡ y
+same-digit x y h k e = go (eqb y 1) refl
+  where
+    go : (t : Bool) → eqb y 1 ≡ t → x ≡ y
+    go true f = let a = eqb-true x 1 (e ∙ f) in let b = eqb-true y 1 f in omega arith
+    go false f = let a = eqb-false x 1 (e ∙ f) in let b = eqb-false y 1 f in omega arith
+
+bits : (mask a b : ℕ) → agreeUnder mask a b ≡ true → (k : ℕ) → k < 64 → hasBit mask k ≡ true → hasBit a k ≡ hasBit b k
+unfolding hasBit
+bits mask a b e k l h =
+    let s : bitAnd a mask ≡ bitAnd b mask = eqb-true _ _ e in
+    let m : mask / 2 ^ k % 2 ≡ 1 = eqb-true _ _ h in
+    let d : bitAnd a mask / 2 ^ k % 2 ≡ bitAnd b mask / 2 ^ k % 2 = rw s in
+    let q : a / 2 ^ k % 2 ≡ b / 2 ^ k % 2 = omega (arith, and-digit a mask k, and-digit b mask k) in
+    rw q
+
+bits-only : (mask a b : ℕ) → mask < 2 ^ 64 → ((k : ℕ) → k < 64 → hasBit mask k ≡ true → hasBit a k ≡ hasBit b k) → agreeUnder mask a b ≡ true
+unfolding hasBit
+bits-only mask a b h e =
+    eq-eqb _ _ (digits 64 (bitAnd a mask) (bitAnd b mask) (omega (arith, and-le-r a mask)) (omega (arith, and-le-r b mask)) each)
+  where
+    go : (k : ℕ) → k < 64 → (t : Bool) → hasBit mask k ≡ t → bitAnd a mask / 2 ^ k % 2 ≡ bitAnd b mask / 2 ^ k % 2
+    go k l true f =
+        let d : a / 2 ^ k % 2 ≡ b / 2 ^ k % 2 = same-digit (a / 2 ^ k % 2) (b / 2 ^ k % 2) (omega arith) (omega arith) (e k l f) in
+        rw (and-digit a mask k, and-digit b mask k, d)
+    go k l false f =
+        let m = eqb-false (mask / 2 ^ k % 2) 1 f in
+        omega (arith, and-digit a mask k, and-digit b mask k)
+
+    each : (k : ℕ) → k < 64 → bitAnd a mask / 2 ^ k % 2 ≡ bitAnd b mask / 2 ^ k % 2
+    each k l = go k l (hasBit mask k) refl
+
+both : (a b : Bool) → (a && b) ≡ true → (a ≡ true) × (b ≡ true)
+both true b e = (refl, e)
+both false b e = absurd (true≢false (sym e))
+
+names : (s : Slot) (c : Client) → namesAgree s c ≡ true → SameNames s c
+names s c e =
+    let p = both (agreeUnder (s .profile .mask) (s .name) (c .name)) (eqb (s .profile .master) (c .master)) e in
+    record { bits = bits (s .profile .mask) (s .name) (c .name) (p .0); master = eqb-true _ _ (p .1) }
+
+names-only : (s : Slot) (c : Client) → s .profile .mask < 2 ^ 64 → SameNames s c → namesAgree s c ≡ true
+names-only s c h n = rw (bits-only (s .profile .mask) (s .name) (c .name) h (n .bits), eq-eqb _ _ (n .master))
+
+-- ---- labels
+
+same : (a b : List ℕ) → sameBytes a b ≡ true → a ≡ b
+same [] [] e = refl
+same [] (y ∷ b) e = absurd (true≢false (sym e))
+same (x ∷ a) [] e = absurd (true≢false (sym e))
+same (x ∷ a) (y ∷ b) e =
+    let p = both (eqb x y) (sameBytes a b) e in
+    rw (eqb-true x y (p .0), same a b (p .1))
+
+alike : (a : List ℕ) → sameBytes a a ≡ true
+alike [] = refl
+alike (x ∷ a) = rw (eq-eqb x x refl, alike a)
+
+labels : (a b : Label) → sameLabel a b ≡ true → (a .length ≡ b .length) × (a .bytes ≡ b .bytes)
+unfolding sameLabel
+labels a b e =
+    let p = both (eqb (a .length) (b .length)) (sameBytes (a .bytes) (b .bytes)) e in
+    (eqb-true _ _ (p .0), same (a .bytes) (b .bytes) (p .1))
+
+labels-only : (a b : Label) → a .length ≡ b .length → a .bytes ≡ b .bytes → sameLabel a b ≡ true
+unfolding sameLabel
+labels-only a b e f = rw (eq-eqb (a .length) (b .length) e, f, alike (b .bytes))
+
+pub agrees : Agrees
+agrees = record { names = names; names-only = names-only; labels = labels; labels-only = labels-only }

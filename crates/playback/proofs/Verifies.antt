@@ -1,0 +1,47 @@
+-- Verification gives 0 exactly when every check holds, and else the number of the first that does not.
+-- Assumes nothing.
+use Prim.Native.Nat.{_≤_}
+use mathlib.Core.Path.{_≡_, refl, sym, ap}
+use mathlib.Core.Bool.{true, false, true≢false}
+use mathlib.Core.Logic.{_⊎_, inl, inr}
+use mathlib.Core.List.{List, [], _∷_}
+use native.Mathlib.Omega.{arith}
+use Rattle.octets.specs.Pick.{pick}
+use Rattle.playback.specs.Verification.{Check, firstFailing, checksOf, verifyOf}
+use Rattle.playback.specs.Promises.{EveryHolds, FirstFails, Verifies}
+use Rattle.playback.proofs.Failing.{Numbered, checks-numbered}
+
+starts : (l : List Check) → EveryHolds l → firstFailing l ≡ 0
+unfolding pick firstFailing
+starts [] h = refl
+starts ((true, n) ∷ l) h = starts l (h .1)
+starts ((false, n) ∷ l) h = absurd (true≢false (sym (h .0)))
+
+only : (l : List Check) → Numbered l → firstFailing l ≡ 0 → EveryHolds l
+unfolding pick firstFailing
+only [] k e = tt
+only ((true, n) ∷ l) k e = (refl, only l (k .1) e)
+only ((false, n) ∷ l) k e = absurd (omega (arith, k .0 .0))
+
+names : (l : List Check) → (firstFailing l ≡ 0 → ⊥) → FirstFails l (firstFailing l)
+unfolding pick firstFailing
+names [] h = absurd (h refl)
+names ((true, n) ∷ l) h =
+    let r = names l h in
+    record { earlier = (true, n) ∷ r .earlier; later = r .later; all = ap (λ (x : List Check). (true, n) ∷ x) (r .all); hold = (refl, r .hold) }
+names ((false, n) ∷ l) h = record { earlier = []; later = l; all = refl; hold = tt }
+
+numbers : (l : List Check) → Numbered l → (firstFailing l ≡ 0) ⊎ ((7 ≤ firstFailing l) × (firstFailing l ≤ 12))
+unfolding pick firstFailing
+numbers [] k = inl refl
+numbers ((true, n) ∷ l) k = numbers l (k .1)
+numbers ((false, n) ∷ l) k = inr (k .0)
+
+pub verifies : Verifies
+unfolding verifyOf
+verifies = record {
+  starts = λ slots q h. starts (checksOf slots q) h;
+  only = λ slots q e. only (checksOf slots q) (checks-numbered slots q) e;
+  names = λ slots q h. names (checksOf slots q) h;
+  numbers = λ slots q. numbers (checksOf slots q) (checks-numbered slots q);
+}
