@@ -103,7 +103,7 @@ module _ {X Y : Type 0} (f : X → Y) where
 
 -- ---- a test
 
-neither : (a b : Bool) → (a || b) ≡ false → (a ≡ false) × (b ≡ false)
+pub neither : (a b : Bool) → (a || b) ≡ false → (a ≡ false) × (b ≡ false)
 neither true b e = absurd (true≢false e)
 neither false b e = (refl, e)
 
@@ -138,7 +138,7 @@ module _ {X : Type 0} (p : X → Bool) where
       go false q k = k q
 
   -- nothing is found, or what is found passes and stands in the list
-  abbrev Found : ℕ → ℕ → List X → X → Type 0
+  abbrev pub Found : ℕ → ℕ → List X → X → Type 0
   Found none i l d =
       ((firstFrom none p i l ≡ none) × (some p l ≡ false))
       ⊎ ((k : ℕ) × (firstFrom none p i l ≡ i + k) × (k < length l) × (p (getD l k d) ≡ true))

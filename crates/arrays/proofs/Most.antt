@@ -1,15 +1,15 @@
 -- A loop that ends at `at_most(count, room)` looks at the first count cells.
 -- Assumes nothing.
-use mathlib.Core.Path.{_≡_, refl, sym, ap, _∙_}
+use Prim.Native.Nat.{ℕ, _≤_, min}
+use mathlib.Core.Path.{_≡_, refl, sym, _∙_}
 use mathlib.Core.Bool.{Bool, true, false}
 use mathlib.Core.List.{List}
-use Prim.Native.Nat.{ℕ, _≤_, min}
 use native.Mathlib.Nat.{min-eq-left, min-eq-right, le-of-lt}
-use lib.Dec.{leb}
-use borrow.Author.Tests.{leb-true, leb-false}
 use native.Mathlib.Omega.{arith}
+use lib.Dec.{leb}
 use lib.ListN.{take, length}
 use lib.Seq.{take-all}
+use borrow.Author.Tests.{leb-true, leb-false}
 use Rattle.arrays.proofs.Walk.{rest, start}
 
 module _ {X : Type 0} (l : List X) (count room end : ℕ) (e : length l ≡ room) (m : end ≡ min count room) where

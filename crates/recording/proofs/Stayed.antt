@@ -1,7 +1,7 @@
 -- A loop that copies the steps that stay: what it has copied when it has looked at i steps.
 -- Assumes nothing.
 use Prim.Native.Nat.{ℕ, _+_, _≤_, _<_}
-use mathlib.Core.Path.{_≡_, refl, sym, ap, _∙_}
+use mathlib.Core.Path.{_≡_, sym, ap, _∙_}
 use mathlib.Core.Bool.{true, false, cond}
 use mathlib.Core.List.{List, [], _∷_, _++_, map, append-nil, map-append}
 use native.Mathlib.Numerals.{add-one}

@@ -14,7 +14,6 @@ use Rattle.arrays.specs.Arrays.{some, firstFrom, more}
 use Rattle.client.specs.Records.{isUsed, blankClient, clientOf}
 use Rattle.client.specs.declared.Slot.{Slot}
 use Rattle.client.specs.declared.Client.{Client}
-use Rattle.sequence.specs.declared.Step.{Step}
 use Rattle.recording.specs.State.{blankTaken}
 use Rattle.recording.specs.declared.Taken.{Taken}
 use Rattle.recording.specs.declared.Recording.{Recording}
@@ -45,12 +44,14 @@ countedOf r mm =
 abbrev pub heldOf : Recording → List Taken
 heldOf r = take (r .count) (r .steps)
 
+-- the step number i, counted from 0
 abbrev pub stepAt : Recording → ℕ → Taken
 stepAt r i = getD (r .steps) i blankTaken
 
 abbrev pub isOpen : Taken → Bool
 isOpen t = eqb (t .status) opened
 
+-- "Record: stop goes to record complete if a step is open"
 unfoldable pub hasOpen : Recording → Bool
 hasOpen r = some isOpen (heldOf r)
 
@@ -68,7 +69,8 @@ placeOf steps count slot tan = firstFrom 64 (isStepOf slot tan) 0 (take count st
 abbrev pub isSame : Taken → Execution → Bool
 isSame t e = eqb (t .step .function) (e .function) && eqb (t .step .state) (e .state)
 
--- "one-shot takes 00; open takes 01, 10 and 11; done takes 01 and 10; failed takes 01 and 11"
+-- "one-shot takes 00; open takes 01 (no change), 10 (done, this message's value kept) and 11 (failed, answer FF); done takes 01 and 10; failed takes
+-- 01 and 11 (answer FF)"
 abbrev pub takes : ℕ → ℕ → Bool
 takes held s =
     eqb held oneShot && eqb s 0b00
@@ -87,6 +89,7 @@ againError t e =
     -- "The other accepted ones answer 00"
     0x00))
 
+-- "done, this message's value kept"
 abbrev pub finished : Taken → ℕ → Taken
 finished t value =
     record {
@@ -102,10 +105,11 @@ finished t value =
       status = done;
     }
 
+-- "failed"
 abbrev pub broken : Taken → Taken
 broken t = record { step = t .step; tan = t .tan; status = failed }
 
--- "open takes 01 (no change), 10 (done, this message's value kept) and 11 (failed, ..)"; "only the changes named here are made"
+-- "open takes 01 (no change), 10 (..) and 11 (..)"; "only the changes named here are made"
 unfoldable pub stepAfter : Taken → Execution → Taken
 stepAfter t e =
     pick (not (isSame t e && isOpen t)) t
@@ -145,11 +149,11 @@ firstError p complete count e =
 abbrev pub markOf : Recording → ℕ → ℕ
 markOf r trigger = pick (eqb trigger 2) (r .distance) (r .ticks)
 
--- "status 00 one-shot with its value, 01 open"
+-- "status 00 one-shot with its value, 01 open": which has none yet
 unfoldable pub firstValue : ℕ → ℕ → ℕ
 firstValue s value = pick (eqb s 0b00) value 0
 
--- its status is that of the message: one-shot and open are numbered as 00 and 01
+-- its status is that of the message: one-shot and open are numbered as 00 and 01; distance, "a later pool does not change which"
 unfoldable pub newStep : Recording → ℕ → ℕ → Execution → Taken
 newStep r trigger slot e =
     record {
@@ -172,6 +176,7 @@ clientsAfter clients slot client =
     (pick (isUsed (getD clients slot blankClient)) clients
     (set clients slot (clientOf client)))
 
+-- after the others, "in order of start"
 unfoldable pub withNew : Recording → Taken → Slot → Recording
 withNew r t client =
     record {
@@ -189,7 +194,7 @@ heardFirst r slot client complete e =
     (record { error = 0x00; recording = withNew r (newStep r (trigger (client .profile) (e .function)) slot e) client })
     (record { error = error; recording = r })
 
--- ---- the whole rule
+-- ---- the whole rule: found, or not found
 
 unfoldable pub heardOf : Recording → ℕ → Slot → Bool → Execution → Heard
 heardOf r slot client complete e =

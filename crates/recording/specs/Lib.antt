@@ -1,3 +1,4 @@
 pub mod State
 pub mod Indication
 pub mod Kept
+pub mod Promises

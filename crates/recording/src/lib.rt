@@ -4,7 +4,8 @@ ghost use Prim.Native.Nat.{_<_};
 ghost use lib.ListN.{take};
 ghost use Rattle.arrays.specs.Arrays.{some};
 ghost use Rattle.recording.specs.State.{blankTaken, blankRecording};
-ghost use Rattle.recording.specs.Indication.{countedOf, isOpen, hasOpen, isStepOf, placeOf, isSame, takes, againError, stepAfter, heardAgain, isKnown, firstError, firstValue, newStep, clientsAfter, withNew, heardFirst, heardOf};
+ghost use Rattle.recording.specs.Indication.{countedOf, isOpen, hasOpen, isStepOf, placeOf, isSame, takes, againError, finished, stepAfter, heardAgain, isKnown, firstError, firstValue, newStep, clientsAfter, withNew, heardFirst, heardOf};
+ghost use Rattle.recording.specs.Promises.{Promises};
 ghost use Rattle.recording.specs.Kept.{stays, stayed, stored, isOf, recordOf, recordsFrom, keptOf};
 use arrays::at_most;
 use arrays::more;
@@ -147,10 +148,29 @@ fn again_error(taken: Taken, e: Execution) -> u8
     if !does_take(taken.status, status) {
         return 0x03;
     }
-    if status == 0b11 {
-        return 0xFF;
+    if status != 0b11 {
+        return 0x00;
     }
-    0x00
+    0xFF
+}
+
+// The step, done with this value.
+fn finished(taken: Taken, value: u32) -> Taken
+    ensures { λ r. ⌜ r ≡ finished taken value ⌝ }
+{
+    let step = Step {
+        slot: taken.step.slot,
+        function: taken.step.function,
+        state: taken.step.state,
+        distance: taken.step.distance,
+        value,
+        mark: taken.step.mark,
+    };
+    Taken {
+        step,
+        tan: taken.tan,
+        status: DONE,
+    }
 }
 
 // The step after a message of it.
@@ -164,9 +184,7 @@ fn step_after(taken: Taken, e: Execution) -> Taken
         return taken;
     }
     if status == 0b10 {
-        after.step.value = e.value;
-        after.status = DONE;
-        return after;
+        return finished(taken, e.value);
     }
     if status == 0b11 {
         after.status = FAILED;
@@ -427,3 +445,8 @@ impl Recording {
         }
     }
 }
+
+// What holds of the definitions that the contracts above cite.
+pub fn promises()
+    ensures { λ _. ⌜ Promises ⌝ }
+{}

@@ -1,7 +1,7 @@
 -- `recording::has_step` meets its contract: what is among all is among those from here on.
 -- Assumes nothing.
-use mathlib.Core.Path.{_≡_, sym, ap, _∙_}
 use Prim.Native.Nat.{_≤_, _-_}
+use mathlib.Core.Path.{_≡_, sym, ap, _∙_}
 use native.Mathlib.Omega.{arith}
 use lib.ListN.{length, take}
 use borrow.Author.Needs.{needs}
@@ -9,7 +9,6 @@ use borrow.Author.Tests.{eq-eqb, ne-eqb}
 use Rattle.arrays.specs.Arrays.{some}
 use Rattle.arrays.proofs.Walk.{rest, some-end, some-hit, some-miss}
 use Rattle.arrays.proofs.Most.{most-start}
-use Rattle.sequence.specs.Sequence.{blankStep}
 use Rattle.recording.specs.Kept.{isOf}
 use Rattle.recording.proofs.has_step.Statement.{statement}
 use Rattle.recording.proofs.has_step.Tie as tie

@@ -48,7 +48,8 @@ loop-again c =
     let b = c .before .before .before .before in
     let v = b .loop .inv in
     let h : b .loop .i < length (b .before .before .before .args .t1) = omega arith in
-    let e = skips _ _ _ h (denied _ _ (c .before .does-stay .ensures) (c .if1 .taken)) in
+    let l = b .before .before .before .args .t1 in
+    let e : stayed (take (b .loop .i + 1) l) ≡ stayed (take (b .loop .i) l) = skips _ _ _ h (denied _ _ (c .before .does-stay .ensures) (c .if1 .taken)) in
     record {
       full = v .full;
       last = v .last;

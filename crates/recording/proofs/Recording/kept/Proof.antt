@@ -1,33 +1,21 @@
+-- `recording::Recording::kept` meets its contract: the steps that stay are the first cells of the array that holds them.
+-- Assumes nothing.
 use mathlib.Core.Path.{_≡_}
 use lib.ListN.{length, take}
 use borrow.Author.Tests.{eq-eqb, ne-eqb}
+use borrow.Author.Needs.{needs}
 use Rattle.octets.specs.Pick.{pick}
 use Rattle.arrays.proofs.Pad.{length-mapped, pad-take}
 use Rattle.sequence.specs.Sequence.{blankStep}
 use Rattle.recording.specs.Kept.{stayed, stored, keptOf}
 use Rattle.recording.proofs.Stayed.{stayed-fits}
-use borrow.Author.Needs.{needs}
 use Rattle.recording.proofs.Recording.kept.Statement.{statement}
 use Rattle.recording.proofs.Recording.kept.Tie as tie
-use Rattle.recording.proofs.Recording.kept.Reads as reads
-use Rattle.recording.proofs.Recording.kept.Lts as lts
-use Rattle.recording.proofs.kept_steps.Reads as kept-steps-reads
-use Rattle.recording.proofs.records_of.Reads as records-of-reads
 
--- src/lib.rt:405:13
-kept-steps-requires : tie.Need-kept-steps-requires
-kept-steps-requires c κs = search needs
-
--- src/lib.rt:407:13
 returns : tie.Need-returns
 unfolding pick keptOf stored
 returns c = rw (eq-eqb _ _ (rw (c .before .before .kept-steps .ensures) at (c .if1 .taken)))
 
--- src/lib.rt:414:22
-records-of-requires : tie.Need-records-of-requires
-records-of-requires c κs = search needs
-
--- src/lib.rt:401:5
 returns-2 : tie.Need-returns-2
 unfolding pick keptOf stored
 returns-2 c =
@@ -42,4 +30,4 @@ returns-2 c =
     )
 
 pub kept-spec : {M : Type 1} → statement M
-kept-spec = tie.close (tie.spec kept-steps-requires returns records-of-requires returns-2)
+kept-spec = tie.close (tie.spec (λ c κs. search needs) returns (λ c κs. search needs) returns-2)

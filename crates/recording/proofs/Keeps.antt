@@ -1,0 +1,132 @@
+-- What is kept at the end: the steps that stay, and the records of their clients.
+-- Assumes nothing.
+use Prim.Native.Nat.{ℕ, zero, suc, _+_, _≤_, _<_}
+use mathlib.Core.Path.{_≡_, refl, sym, ap, subst, _∙_}
+use mathlib.Core.Bool.{Bool, true, false, true≢false}
+use mathlib.Core.List.{List, [], _∷_}
+use native.Mathlib.Omega.{arith}
+use lib.ListN.{length, getD, length-map, getD-replicate}
+use borrow.Author.Tests.{ne-eqb}
+use Rattle.octets.specs.Pick.{pick}
+use Rattle.arrays.specs.Arrays.{some, those, padTo}
+use Rattle.arrays.specs.Every.{Pairs}
+use Rattle.arrays.proofs.Fill.{pad-none}
+use Rattle.arrays.proofs.Pad.{pad-take}
+use Rattle.arrays.proofs.Every.{pairs-map, pairs-those, some-map, those-none, those-some, none-those}
+use Rattle.client.specs.Records.{isUsed, blankClient}
+use Rattle.client.specs.declared.Client.{Client}
+use Rattle.sequence.specs.Sequence.{blankStep, blankSequence, stepsOf}
+use Rattle.sequence.specs.declared.Step.{Step}
+use Rattle.sequence.specs.declared.Sequence.{Sequence}
+use Rattle.recording.specs.Indication.{heldOf}
+use Rattle.recording.specs.Kept.{stays, stepIn, stayed, isOf, recordOf, recordsFrom, sequenceOf, keptOf}
+use Rattle.recording.specs.Promises.{Sound, SoundSequence, Keeps, InOrder, isTakenOf}
+use Rattle.recording.specs.declared.Recording.{Recording}
+use Rattle.recording.proofs.Stayed.{stayed-fits}
+use Rattle.recording.proofs.Cases.{full}
+use Rattle.recording.proofs.Sound.{unused}
+
+-- ---- the records
+
+module _ (l : List Step) where
+  pub records-length : (k : ℕ) (clients : List Client) → length (recordsFrom l k clients) ≡ length clients
+  records-length k [] = refl
+  records-length k (c ∷ clients) = ap suc (records-length (suc k) clients)
+
+  records-from : (k i : ℕ) (clients : List Client) (d : Client) → i < length clients → getD (recordsFrom l k clients) i d ≡ recordOf l (k + i) (getD clients i d)
+  records-from k i [] d h = absurd (omega arith)
+  records-from k zero (c ∷ clients) d h = let z : k ≡ k + 0 = omega arith in ap (λ (x : ℕ). recordOf l x c) z
+  records-from k (suc i) (c ∷ clients) d h =
+      let z : suc k + i ≡ k + suc i = omega arith in
+      records-from (suc k) i clients d (omega arith) ∙ ap (λ (x : ℕ). recordOf l x (getD clients i d)) z
+
+  pub records-at : (i : ℕ) (clients : List Client) (d : Client) → i < length clients → getD (recordsFrom l 0 clients) i d ≡ recordOf l i (getD clients i d)
+  records-at i clients d h = let z : 0 + i ≡ i = omega arith in records-from 0 i clients d h ∙ ap (λ (x : ℕ). recordOf l x (getD clients i d)) z
+
+  has : (slot : ℕ) (c : Client) → some (isOf slot) l ≡ true → recordOf l slot c ≡ c
+  unfolding pick recordOf
+  has slot c q = rw q
+
+  has-not : (slot : ℕ) (c : Client) → some (isOf slot) l ≡ false → recordOf l slot c ≡ blankClient
+  unfolding pick recordOf
+  has-not slot c q = rw q
+
+-- ---- the sequence
+
+pub sound-none : SoundSequence blankSequence
+unfolding blankSequence stepsOf
+sound-none =
+    record {
+      few = omega arith;
+      blank = pad-none blankStep 64;
+      ordered = tt;
+      slots = refl;
+      recorded = λ slot h. rw (getD-replicate 8 slot blankClient blankClient h) unused;
+      unrecorded = λ slot h _. getD-replicate 8 slot blankClient blankClient h;
+    }
+
+module _ (r : Recording) (old : Sequence) (s : Sound r) where
+  abbrev kept : List Step
+  kept = stayed (heldOf r)
+
+  keeps-none : some stays (heldOf r) ≡ false → keptOf r old ≡ old
+  unfolding pick keptOf
+  keeps-none n = rw (those-none stays (heldOf r) n)
+
+  keeps-some : some stays (heldOf r) ≡ true → keptOf r old ≡ sequenceOf kept (r .clients)
+  unfolding pick keptOf
+  keeps-some n =
+      let a = those-some stays (heldOf r) n in
+      let b = length-map (those stays (heldOf r)) stepIn in
+      rw (ne-eqb (length kept) 0 (λ z. omega arith))
+
+  fits : length kept ≤ 64
+  fits = stayed-fits (r .steps) (r .count) (full r s)
+
+  kept-steps : stepsOf (sequenceOf kept (r .clients)) ≡ kept
+  unfolding stepsOf
+  kept-steps = pad-take blankStep 64 kept fits
+
+  -- a step that stays was held
+  none-kept : (slot : ℕ) → some (isTakenOf slot) (heldOf r) ≡ false → some (isOf slot) kept ≡ false
+  none-kept slot n = some-map stepIn (isOf slot) (those stays (heldOf r)) ∙ none-those (isTakenOf slot) stays (heldOf r) n
+
+  recorded : (slot : ℕ) → slot < 8 → (b : Bool) → some (isOf slot) kept ≡ b → (c : Bool) → some (isTakenOf slot) (heldOf r) ≡ c
+      → isUsed (recordOf kept slot (getD (r .clients) slot blankClient)) ≡ b
+  recorded slot h true q true p = rw (has kept slot (getD (r .clients) slot blankClient) q) (s .recorded slot h ∙ p)
+  recorded slot h true q false p = absurd (true≢false (sym q ∙ none-kept slot p))
+  recorded slot h false q c p = rw (has-not kept slot (getD (r .clients) slot blankClient) q) unused
+
+  at : (slot : ℕ) → slot < 8 → getD (recordsFrom kept 0 (r .clients)) slot blankClient ≡ recordOf kept slot (getD (r .clients) slot blankClient)
+  at slot h = let n = s .slots in records-at kept slot (r .clients) blankClient (omega arith)
+
+  sound-sequence : SoundSequence (sequenceOf kept (r .clients))
+  sound-sequence =
+      record {
+        few = fits;
+        blank = ap (padTo blankStep 64) (sym kept-steps);
+        ordered = subst (Pairs InOrder) (sym kept-steps) (pairs-map stepIn InOrder (those stays (heldOf r)) (pairs-those _ stays (heldOf r) (s .ordered)));
+        slots = records-length kept 0 (r .clients) ∙ s .slots;
+        recorded = λ slot h.
+            ap isUsed (at slot h) ∙ recorded slot h (some (isOf slot) kept) refl (some (isTakenOf slot) (heldOf r)) refl ∙ ap (some (isOf slot)) (sym kept-steps);
+        unrecorded = λ slot h q. at slot h ∙ has-not kept slot (getD (r .clients) slot blankClient) (ap (some (isOf slot)) (sym kept-steps) ∙ q);
+      }
+
+  pub sound-kept : SoundSequence old → SoundSequence (keptOf r old)
+  sound-kept o = go (some stays (heldOf r)) refl
+    where
+      go : (b : Bool) → some stays (heldOf r) ≡ b → SoundSequence (keptOf r old)
+      go true n = subst SoundSequence (sym (keeps-some n)) sound-sequence
+      go false n = subst SoundSequence (sym (keeps-none n)) o
+
+  kept-record : (slot : ℕ) (c : Client) → recordOf kept slot c ≡ pick (some (isOf slot) kept) c blankClient
+  unfolding recordOf
+  kept-record slot c = refl
+
+  pub keeps : Keeps r old
+  keeps =
+      record {
+        steps = λ n. ap stepsOf (keeps-some n) ∙ kept-steps;
+        none = keeps-none;
+        records = λ slot h n. ap (λ (q : Sequence). getD (q .clients) slot blankClient) (keeps-some n) ∙ at slot h ∙ kept-record slot (getD (r .clients) slot blankClient);
+      }
