@@ -2,7 +2,6 @@
 -- Assumes nothing.
 use borrow.Author.Tests.{eq-eqb, ne-eqb}
 use Rattle.octets.specs.Pick.{pick}
-use Rattle.master.specs.States.{abort}
 use Rattle.master.specs.Playback.{abortOf}
 use borrow.Author.Needs.{needs}
 use Rattle.master.proofs.Master.abort.Statement.{statement}

@@ -13,7 +13,13 @@ returns c = rw (c .gives .ensures, ← c .before .before .record-refusal .ensure
 
 returns-2 : tie.Need-returns-2
 unfolding pick recordOf
-returns-2 c = rw (c .gives2 .ensures, c .before .blank-recording .ensures, ← c .before .before .before .record-refusal .ensures, eq-eqb _ _ (c .before .before .if1 .left))
+returns-2 c =
+    rw (
+      c .gives2 .ensures,
+      c .before .blank-recording .ensures,
+      ← c .before .before .before .record-refusal .ensures,
+      eq-eqb _ _ (c .before .before .if1 .left),
+    )
 
 pub record-spec : {M : Type 1} → statement M
 record-spec = tie.close (tie.spec (λ c κs. search needs) (λ c κs. search needs) returns (λ c κs. search needs) (λ c κs. search needs) returns-2)

@@ -23,17 +23,36 @@ returns-2 c = (
 
 returns-3 : tie.Need-returns-3
 unfolding pick tickOf tickOut
-returns-3 c = (
-  rw (c .gives3 .ensures, le-ltb _ _ (c .before .before .before .before .if1 .left), le-ltb _ _ (c .before .before .before .if2 .left), eq-eqb _ _ (c .before .if3 .taken)),
-  rw (le-ltb _ _ (c .before .before .before .before .if1 .left), le-ltb _ _ (c .before .before .before .if2 .left), eq-eqb _ _ (c .before .if3 .taken)),
-)
+returns-3 c =
+    let at-if3 = c .before in
+    let at-if2 = at-if3 .before .before in
+    let at-if1 = at-if2 .before in (
+      rw (c .gives3 .ensures, le-ltb _ _ (at-if1 .if1 .left), le-ltb _ _ (at-if2 .if2 .left), eq-eqb _ _ (at-if3 .if3 .taken)),
+      rw (le-ltb _ _ (at-if1 .if1 .left), le-ltb _ _ (at-if2 .if2 .left), eq-eqb _ _ (at-if3 .if3 .taken)),
+    )
 
 returns-4 : tie.Need-returns-4
 unfolding pick tickOf tickOut
-returns-4 c = (
-  rw (c .before .before .write-frames .ensures .0, c .before .before .before .before .ticked .ensures, le-ltb _ _ (c .before .before .before .before .before .before .before .before .if1 .left), le-ltb _ _ (c .before .before .before .before .before .before .before .if2 .left), ne-eqb _ _ (c .before .before .before .before .before .if3 .left)),
-  rw (le-ltb _ _ (c .before .before .before .before .before .before .before .before .if1 .left), le-ltb _ _ (c .before .before .before .before .before .before .before .if2 .left), ne-eqb _ _ (c .before .before .before .before .before .if3 .left), ← c .before .before .before .before .ticked .ensures) (c .before .before .write-frames .ensures .1),
-)
+returns-4 c =
+    let at-write-frames = c .before .before in
+    let at-ticked = at-write-frames .before .before in
+    let at-if3 = at-ticked .before in
+    let at-if2 = at-if3 .before .before in
+    let at-if1 = at-if2 .before in (
+      rw (
+        at-write-frames .write-frames .ensures .0,
+        at-ticked .ticked .ensures,
+        le-ltb _ _ (at-if1 .if1 .left),
+        le-ltb _ _ (at-if2 .if2 .left),
+        ne-eqb _ _ (at-if3 .if3 .left),
+      ),
+      rw (
+        le-ltb _ _ (at-if1 .if1 .left),
+        le-ltb _ _ (at-if2 .if2 .left),
+        ne-eqb _ _ (at-if3 .if3 .left),
+        ← at-ticked .ticked .ensures,
+      ) (at-write-frames .write-frames .ensures .1),
+    )
 
 pub tick-spec : {M : Type 1} → statement M
 tick-spec =

@@ -3,7 +3,6 @@
 use borrow.Author.Tests.{eq-eqb, ne-eqb}
 use mathlib.Core.Path.{_∙_}
 use Rattle.octets.specs.Pick.{pick}
-use Rattle.master.specs.States.{playback}
 use Rattle.master.specs.Tick.{framesIn, countIn}
 use Rattle.master.proofs.Frames.{no-frames, none-waiting}
 use borrow.Author.Needs.{needs}
@@ -13,16 +12,22 @@ use Rattle.master.proofs.Master.write_frames.Tie as tie
 returns : tie.Need-returns
 unfolding pick countIn framesIn
 returns c =
-    let e = ne-eqb _ _ (c .before .before .before .before .before .if1 .taken) in (
-      c .before .before .frames .ensures .0 ∙ rw (e, c .before .before .before .before .blank-playback .ensures) none-waiting,
-      rw (e, ← no-frames (c .before .before .before .before .before .before .before .before .before .args .self .sequence .steps), ← c .before .before .before .before .blank-playback .ensures) (c .before .before .frames .ensures .1),
+    let at-frames = c .before .before in
+    let at-blank-playback = at-frames .before .before in
+    let at-if1 = at-blank-playback .before in
+    let at-args = at-if1 .before .before .before .before in
+    let e = ne-eqb _ _ (at-if1 .if1 .taken) in (
+      at-frames .frames .ensures .0 ∙ rw (e, at-blank-playback .blank-playback .ensures) none-waiting,
+      rw (e, ← no-frames (at-args .args .self .sequence .steps), ← at-blank-playback .blank-playback .ensures) (at-frames .frames .ensures .1),
     )
 
 returns-2 : tie.Need-returns-2
 unfolding pick countIn framesIn
 returns-2 c =
-    let e = eq-eqb _ _ (c .before .before .before .before .before .if1 .left) in
-    (rw e (c .before .before .frames2 .ensures .0), rw e (c .before .before .frames2 .ensures .1))
+    let at-frames2 = c .before .before in
+    let at-if1 = at-frames2 .before .before .before in
+    let e = eq-eqb _ _ (at-if1 .if1 .left) in
+    (rw e (at-frames2 .frames2 .ensures .0), rw e (at-frames2 .frames2 .ensures .1))
 
 pub write-frames-spec : {M : Type 1} → statement M
 write-frames-spec = tie.close (tie.spec (λ c κs. search needs) (λ c κs. search needs) (λ c. search needs) returns (λ c κs. search needs) (λ c. search needs) returns-2)

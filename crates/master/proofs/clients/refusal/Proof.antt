@@ -1,7 +1,6 @@
 -- `master::clients::refusal` meets its contract: by its tests.
 -- Assumes nothing.
 use Rattle.octets.specs.Pick.{pick}
-use Rattle.master.specs.Numbers.{refusal}
 use Rattle.master.proofs.clients.refusal.Statement.{statement}
 use Rattle.master.proofs.clients.refusal.Tie as tie
 
