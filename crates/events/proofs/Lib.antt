@@ -1,0 +1,15 @@
+pub mod Choices
+pub mod Numbers
+pub mod Parts
+pub mod Refused
+pub mod Examples
+pub mod Reaches
+pub mod Tables
+pub mod Ordered
+pub mod Shape
+pub mod Accepts
+pub mod Barred
+pub mod Determined
+pub mod Starts
+pub mod Cut
+pub mod Cases

@@ -1,0 +1,5 @@
+pub mod Lists
+pub mod Held
+pub mod Told
+pub mod Next
+pub mod Runs

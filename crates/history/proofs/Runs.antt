@@ -1,0 +1,264 @@
+-- Over every run: its calls are taken one after the other, and what holds of the calls so far holds with one more.
+-- Assumes nothing.
+use mathlib.Core.Path.{_≡_, refl, sym, ap, subst, _∙_}
+use mathlib.Core.Bool.{Bool, true, _&&_}
+use mathlib.Core.Logic.{_⊎_, inl, inr}
+use mathlib.Core.List.{List, [], _∷_, _++_, append-nil, append-assoc}
+use lib.Dec.{eqb}
+use borrow.Author.Tests.{eqb-true}
+use Rattle.arrays.specs.Every.{Every}
+use Rattle.arrays.proofs.Every.{every-weaken}
+use Rattle.sequence.specs.Sequence.{stepsOf, blankSequence}
+use Rattle.recording.proofs.Steps.{both}
+use Rattle.recording.proofs.Sound.{sound-blank}
+use Rattle.recording.proofs.Keeps.{sound-none}
+use Rattle.recording.specs.Promises.{Sound, SoundSequence}
+use Rattle.playback.specs.Promises.{Tidy}
+use Rattle.playback.proofs.Keeps as played
+use Rattle.sequence.specs.declared.Sequence as sequence
+use Rattle.sequence.specs.declared.Step.{Step}
+use Rattle.message.specs.declared.Status.the-variants.{AtOnce, Started}
+use Rattle.recording.specs.Indication.{status}
+use Rattle.master.specs.declared.Master.{Master}
+use Rattle.master.specs.States as state
+use Rattle.master.specs.States.{newMaster, isRecording}
+use Rattle.events.specs.Events.{Event, on, off, «record», stop, cancel, start, abort, attach, enable, disable, report, lost, indication, clientAbort, tick, answer, apply, runFrom, run}
+use Rattle.history.specs.Log.{Entry, entriesIn, logAfter, logFrom, logOf}
+use Rattle.history.specs.Promises.{isAccepted, isFinish, FirstOf, Traced, KeptBy, Happened, Recorded, Complete, doesKeep, Promises}
+use Rattle.history.proofs.Lists.{chosen-by, every-chosen, every-append}
+use Rattle.history.proofs.Held.{done-is}
+use Rattle.history.proofs.Told.{told-blank}
+use Rattle.history.proofs.Next.{Good, Sequence, apply-next, apply-whole}
+
+-- ---- one call more
+
+run-more : (events : List Event) (e : Event) (m : Master) → runFrom m (events ++ e ∷ []) ≡ apply (runFrom m events) e .master
+run-more [] e m = refl
+run-more (x ∷ events) e m = run-more events e (apply m x .master)
+
+log-more :
+    (events : List Event) (e : Event) (m : Master) (log : List Entry)
+    → logFrom m log (events ++ e ∷ []) ≡ logAfter (runFrom m events) e (logFrom m log events)
+log-more [] e m log = refl
+log-more (x ∷ events) e m log = log-more events e (apply m x .master) (logAfter m x log)
+
+along : (P : List Event → Type 0) → P [] → ((events : List Event) (e : Event) → P events → P (events ++ e ∷ [])) → (events : List Event) → P events
+along P z f events = go events [] z
+  where
+    go : (rest before : List Event) → P before → P (before ++ rest)
+    go [] before p = subst P (sym (append-nil before)) p
+    go (e ∷ rest) before p = subst P (append-assoc before (e ∷ []) rest) (go rest (before ++ e ∷ []) (f before e p))
+
+-- ---- the entries are of the run
+
+happened-last : (before : List Event) (e : Event) → Every (Happened (before ++ e ∷ [])) (entriesIn (run before) e)
+happened-last before on = tt
+happened-last before off = tt
+happened-last before «record» = tt
+happened-last before stop = tt
+happened-last before cancel = tt
+happened-last before start = tt
+happened-last before abort = tt
+happened-last before (attach slot name pool) = tt
+happened-last before (enable slot out) = tt
+happened-last before (disable slot out) = tt
+happened-last before (report slot number) = tt
+happened-last before (lost slot) = tt
+happened-last before (indication slot msg out) =
+    chosen-by (Every (Happened (before ++ indication slot msg out ∷ []))) _ _ _
+    (λ t.
+    let b = both (isRecording (run before)) _ t in (
+      record {
+        before = before;
+        slot = slot;
+        msg = msg;
+        out = out;
+        after = [];
+        all = refl;
+        recording = b .0;
+        accepted = eqb-true _ 0 (b .1);
+        entry = refl;
+      },
+      tt,
+    ))
+    (λ _. tt)
+happened-last before (clientAbort slot msg) = tt
+happened-last before (tick mm out) = tt
+happened-last before (answer slot msg out) = tt
+
+-- a call of the beginning of a run is one of the run
+happened-in : (events rest : List Event) (x : Entry) → Happened events x → Happened (events ++ rest) x
+happened-in events rest x h = record {
+  before = h .before;
+  slot = h .slot;
+  msg = h .msg;
+  out = h .out;
+  after = h .after ++ rest;
+  all = ap (λ (l : List Event). l ++ rest) (h .all) ∙ append-assoc (h .before) (indication (h .slot) (h .msg) (h .out) ∷ h .after) rest;
+  recording = h .recording;
+  accepted = h .accepted;
+  entry = h .entry;
+}
+
+happened : (events : List Event) → Every (Happened events) (logOf events)
+happened =
+    along (λ events. Every (Happened events) (logOf events)) tt
+    (λ events e h.
+    subst (Every (Happened (events ++ e ∷ []))) (sym (log-more events e newMaster []))
+    (chosen-by (Every (Happened (events ++ e ∷ []))) _ _ _
+    (λ _. every-append _ (logOf events) (entriesIn (run events) e) (every-weaken (happened-in events (e ∷ [])) (logOf events) h) (happened-last events e))
+    (λ _. tt)))
+
+-- ---- the steps are traced
+
+record Traces (events : List Event) : Type 0 where
+  good : Good (run events) (logOf events)
+  kept : (stepsOf (run events .sequence) ≡ []) ⊎ KeptBy events
+
+none-yet : Traces []
+unfolding newMaster blankSequence stepsOf
+none-yet = record {
+  good = record { sound = sound-blank; told = told-blank; idle = λ _. refl; sequence = sound-none; playback = played.keeps .starting };
+  kept = inl refl;
+}
+
+module _ (events : List Event) (e : Event) where
+  abbrev all : List Event
+  all = events ++ e ∷ []
+
+  more : run all ≡ apply (run events) e .master
+  more = run-more events e newMaster
+
+  kept-still : run all .sequence ≡ run events .sequence → KeptBy events → KeptBy all
+  kept-still c k = record {
+    before = k .before;
+    last = k .last;
+    after = k .after ++ e ∷ [];
+    all = ap (λ (l : List Event). l ++ e ∷ []) (k .all) ∙ append-assoc (k .before) (k .last ∷ k .after) (e ∷ []);
+    recording = k .recording;
+    ended = k .ended;
+    sequence = c ∙ k .sequence;
+    steps = subst (λ (q : sequence.Sequence). Every (Traced (logOf (k .before) ++ entriesIn (run (k .before)) (k .last))) (stepsOf q)) (sym c) (k .steps);
+  }
+
+  kept-more :
+      (stepsOf (run events .sequence) ≡ []) ⊎ KeptBy events
+      → Sequence (run events) (logOf events ++ entriesIn (run events) e) (apply (run events) e .master)
+      → (stepsOf (run all .sequence) ≡ []) ⊎ KeptBy all
+  kept-more (inl z) (inl c) = inl (ap (λ (m : Master). stepsOf (m .sequence)) more ∙ ap stepsOf c ∙ z)
+  kept-more (inr k) (inl c) = inr (kept-still (ap (λ (m : Master). m .sequence) more ∙ c) k)
+  kept-more k (inr (i, r, t)) = inr (record {
+    before = events;
+    last = e;
+    after = [];
+    all = refl;
+    recording = i;
+    ended = ap (λ (m : Master). m .state) more ∙ r;
+    sequence = refl;
+    steps = subst (λ (m : Master). Every (Traced (logOf events ++ entriesIn (run events) e)) (stepsOf (m .sequence))) (sym more) t;
+  })
+
+  one-more : Traces events → Traces all
+  one-more h =
+      let n = apply-next (run events) (logOf events) (h .good) e in
+      record {
+        good = subst (λ (m : Master). Good m (logOf all)) (sym more) (subst (Good (apply (run events) e .master)) (sym (log-more events e newMaster [])) (n .good));
+        kept = kept-more (h .kept) (n .sequence);
+      }
+
+traces : (events : List Event) → Traces events
+traces = along Traces none-yet one-more
+
+-- ---- each step has its calls
+
+first-holds : (P : Entry → Type 0) (p : Entry → Bool) (log : List Entry) (x : Entry) → Every P log → FirstOf p log x → P x × (p x ≡ true)
+first-holds P p log x h f =
+    subst (Every (λ y. P y × (p y ≡ true))) (f .1) (every-chosen (λ y. P y × (p y ≡ true)) p log (every-weaken (λ y k t. (k, t)) log h)) .0
+
+module _ (events : List Event) (log : List Entry) (h : Every (Happened events) log) where
+  recorded-in : (s : Step) → Traced log s → Recorded events s
+  recorded-in s t =
+      let b = first-holds (Happened events) (isAccepted (t .began .slot) (t .began .message .tan)) log (t .began) h (t .first) in
+      go (b .0) (eqb-true (t .began .error) 0 (both (eqb (t .began .slot) (t .began .slot) && eqb (t .began .message .tan) (t .began .message .tan)) (eqb (t .began .error) 0) (b .1) .1)) (t .finish)
+    where
+      go :
+          Happened events (t .began) → t .began .error ≡ 0
+          → ((t .began .message .status ≡ AtOnce) × (t .finished ≡ t .began))
+          ⊎ ((t .began .message .status ≡ Started) × FirstOf (isFinish (t .began)) log (t .finished))
+          → Recorded events s
+      go b a (inl (o, e)) = record {
+        began = t .began;
+        began-in = b;
+        answered = a;
+        start = t .start;
+        finished = t .finished;
+        finished-in = subst (Happened events) (sym e) b;
+        slot = ap (λ (x : Entry). x .slot) e;
+        tan = ap (λ (x : Entry). x .message .tan) e;
+        function = ap (λ (x : Entry). x .message .function) e;
+        state = ap (λ (x : Entry). x .message .state) e;
+        status = inl (o, e);
+        value = t .value;
+      }
+      go b a (inr (o, f)) =
+          let y = t .began in
+          let x = t .finished in
+          let k = first-holds (Happened events) (isFinish y) log x h f in
+          let c = both (isAccepted (y .slot) (y .message .tan) x) _ (k .1) in
+          let d = both (eqb (y .slot) (x .slot) && eqb (y .message .tan) (x .message .tan)) (eqb (x .error) 0) (c .0) in
+          let i = both (eqb (y .slot) (x .slot)) (eqb (y .message .tan) (x .message .tan)) (d .0) in
+          let w = both _ (eqb (status (x .message)) 2) (c .1) in
+          let v = both (eqb (y .message .function) (x .message .function)) (eqb (y .message .state) (x .message .state)) (w .0) in
+          record {
+            began = y;
+            began-in = b;
+            answered = a;
+            start = t .start;
+            finished = x;
+            finished-in = k .0;
+            slot = sym (eqb-true (y .slot) (x .slot) (i .0));
+            tan = sym (eqb-true (y .message .tan) (x .message .tan) (i .1));
+            function = sym (eqb-true (y .message .function) (x .message .function) (v .0));
+            state = sym (eqb-true (y .message .state) (x .message .state) (v .1));
+            status = inr (o, done-is (x .message .status) (eqb-true (status (x .message)) 2 (w .1)));
+            value = t .value;
+          }
+
+recorded : (events : List Event) → Every (Recorded events) (stepsOf (run events .sequence))
+recorded events = go (traces events .kept)
+  where
+    by : KeptBy events → Every (Recorded events) (stepsOf (run events .sequence))
+    by k =
+        let log = logOf (k .before) ++ entriesIn (run (k .before)) (k .last) in
+        let whole : k .before ++ k .last ∷ k .after ≡ events = sym (k .all) in
+        let there : Every (Happened (k .before ++ k .last ∷ k .after)) log =
+        every-append _ (logOf (k .before)) (entriesIn (run (k .before)) (k .last))
+        (every-weaken (happened-in (k .before) (k .last ∷ k .after)) (logOf (k .before)) (happened (k .before)))
+        (every-weaken (λ x h. subst (λ (l : List Event). Happened l x) (append-assoc (k .before) (k .last ∷ []) (k .after)) (happened-in (k .before ++ k .last ∷ []) (k .after) x h))
+        (entriesIn (run (k .before)) (k .last)) (happened-last (k .before) (k .last))) in
+        every-weaken (recorded-in events log (subst (λ (l : List Event). Every (Happened l) log) whole there)) (stepsOf (run events .sequence)) (k .steps)
+
+    go : (stepsOf (run events .sequence) ≡ []) ⊎ KeptBy events → Every (Recorded events) (stepsOf (run events .sequence))
+    go (inl z) = rw z tt
+    go (inr k) = by k
+
+-- ---- and nothing is lost
+
+complete :
+    (before : List Event) (last : Event) → isRecording (run before) ≡ true → doesKeep last ≡ true → run (before ++ last ∷ []) .state ≡ state.ready
+    → Complete (logOf before ++ entriesIn (run before) last) (stepsOf (run (before ++ last ∷ []) .sequence))
+complete before last i k z =
+    subst (λ (m : Master). Complete (logOf before ++ entriesIn (run before) last) (stepsOf (m .sequence))) (sym (more before last))
+    (apply-whole (run before) (logOf before) (traces before .good) last k i (ap (λ (m : Master). m .state) (sym (more before last)) ∙ z))
+
+pub promises : Promises
+promises = record {
+  recorded = recorded;
+  kept = λ events. traces events .kept;
+  complete = complete;
+  happened = happened;
+  happened-last = happened-last;
+  sound = λ m g. subst (λ (n : Master). Sound (n .recording)) (g .1) (traces (g .0) .good .sound);
+  sound-sequence = λ m g. subst (λ (n : Master). SoundSequence (n .sequence)) (g .1) (traces (g .0) .good .sequence);
+  tidy = λ m g. subst (λ (n : Master). Tidy (n .playback)) (g .1) (traces (g .0) .good .playback);
+}

@@ -1,0 +1,2 @@
+pub mod HowLate
+pub mod Promises

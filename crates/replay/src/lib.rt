@@ -1,0 +1,8 @@
+// When the steps of a playback leave, what stands in their frames, and when it ends: theorems on runs of the definitions that the calls of crate
+// `playback` meet.
+ghost use Rattle.replay.specs.Promises.{Promises};
+
+// What holds of every run.
+pub fn promises()
+    ensures { λ _. ⌜ Promises ⌝ }
+{}

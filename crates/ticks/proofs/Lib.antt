@@ -1,0 +1,5 @@
+pub mod Queue
+pub mod Follows
+pub mod Theorems
+pub mod When
+pub mod Why
