@@ -20,8 +20,9 @@ use Rattle.recording.specs.declared.Taken.{Taken}
 use Rattle.recording.proofs.Errors.{passed}
 use Rattle.recording.proofs.Steps.{both, unchanged, idle-at-once, idle-started, finishing, finish-error}
 use Rattle.history.specs.Log.{Entry}
-use Rattle.history.specs.Promises.{isAccepted, isFinish, FirstOf, Begins, Traced}
-use Rattle.history.proofs.Lists.{either, not-both, all-true, left-false, right-false, still-none, first-now, first-still}
+use Rattle.history.specs.Steps.{isAccepted, isFinish, FirstOf, Begins}
+use Rattle.history.specs.Promises.{Traced}
+use Rattle.history.proofs.Lists.{either, is-false, all-true, left-false, right-false, still-none, first-now, first-still}
 
 -- ---- a status and its number
 
@@ -151,7 +152,7 @@ module _ (log : List Entry) (x : Entry) (t : Taken) (h : Held log t) (it : isSte
 
   -- what changes nothing does not finish it
   not-finish : stepAfter t m ≡ t → (t .status ≡ done → ⊥) → isFinish (h .began) x ≡ false
-  not-finish u n = not-both (isFinish (h .began) x) no
+  not-finish u n = is-false (isFinish (h .began) x) no
     where
       no : isFinish (h .began) x ≡ true → ⊥
       no k =

@@ -17,7 +17,7 @@ use Rattle.recording.specs.Indication.{isStepOf}
 use Rattle.recording.specs.declared.Taken.{Taken}
 use Rattle.recording.proofs.Steps.{both}
 use Rattle.history.specs.Log.{Entry}
-use Rattle.history.specs.Promises.{FirstOf}
+use Rattle.history.specs.Steps.{FirstOf}
 
 -- ---- choices
 
@@ -30,9 +30,13 @@ pub either : {Q : Type 0} (b : Bool) → (b ≡ true → Q) → (b ≡ false →
 either true p q = p refl
 either false p q = q refl
 
-pub not-both : (b : Bool) → (b ≡ true → ⊥) → b ≡ false
-not-both true h = absurd (h refl)
-not-both false h = refl
+pub is-false : (b : Bool) → (b ≡ true → ⊥) → b ≡ false
+is-false true h = absurd (h refl)
+is-false false h = refl
+
+pub is-true : (b : Bool) → (b ≡ false → ⊥) → b ≡ true
+is-true true h = refl
+is-true false h = absurd (h refl)
 
 pub all-true : (a b : Bool) → a ≡ true → b ≡ true → (a && b) ≡ true
 all-true a b p q = rw (p, q)
@@ -96,7 +100,7 @@ module _ (slot tan : ℕ) where
       rw (eqb-true (y .step .slot) slot (e .0), eqb-true (y .tan) tan (e .1)) at n
 
   after-it : (x y : Taken) → isStepOf slot tan x ≡ true → Single x y → isStepOf slot tan y ≡ false
-  after-it x y q n = not-both (isStepOf slot tan y) (λ z. true≢false (sym q ∙ before-it x y z n))
+  after-it x y q n = is-false (isStepOf slot tan y) (λ z. true≢false (sym q ∙ before-it x y z n))
 
   module _ (P Q : Taken → Type 0) (d u : Taken) (other : (t : Taken) → P t → isStepOf slot tan t ≡ false → Q t) where
     pub set-every :

@@ -1,11 +1,11 @@
 -- Over every run: its calls are taken one after the other, and what holds of the calls so far holds with one more.
 -- Assumes nothing.
 use mathlib.Core.Path.{_≡_, refl, sym, ap, subst, _∙_}
-use mathlib.Core.Bool.{Bool, true, _&&_}
+use mathlib.Core.Bool.{Bool, true, false, _&&_, true≢false}
 use mathlib.Core.Logic.{_⊎_, inl, inr}
 use mathlib.Core.List.{List, [], _∷_, _++_, append-nil, append-assoc}
 use lib.Dec.{eqb}
-use borrow.Author.Tests.{eqb-true}
+use borrow.Author.Tests.{eq-eqb, eqb-true}
 use Rattle.arrays.specs.Every.{Every}
 use Rattle.arrays.proofs.Every.{every-weaken}
 use Rattle.sequence.specs.Sequence.{stepsOf, blankSequence}
@@ -24,8 +24,9 @@ use Rattle.master.specs.States as state
 use Rattle.master.specs.States.{newMaster, isRecording}
 use Rattle.events.specs.Events.{Event, on, off, «record», stop, cancel, start, abort, attach, enable, disable, report, lost, indication, clientAbort, tick, answer, apply, runFrom, run}
 use Rattle.history.specs.Log.{Entry, entriesIn, logAfter, logFrom, logOf}
-use Rattle.history.specs.Promises.{isAccepted, isFinish, FirstOf, Traced, KeptBy, Happened, Recorded, Complete, doesKeep, Promises}
-use Rattle.history.proofs.Lists.{chosen-by, every-chosen, every-append}
+use Rattle.history.specs.Steps.{isAccepted, isFinish, FirstOf, keptFrom}
+use Rattle.history.specs.Promises.{Traced, KeptBy, Happened, Recorded, doesKeep, Promises}
+use Rattle.history.proofs.Lists.{chosen-by, all-true, every-chosen, every-append}
 use Rattle.history.proofs.Held.{done-is}
 use Rattle.history.proofs.Told.{told-blank}
 use Rattle.history.proofs.Next.{Good, Sequence, apply-next, apply-whole}
@@ -136,6 +137,7 @@ module _ (events : List Event) (e : Event) where
     after = k .after ++ e ∷ [];
     all = ap (λ (l : List Event). l ++ e ∷ []) (k .all) ∙ append-assoc (k .before) (k .last ∷ k .after) (e ∷ []);
     recording = k .recording;
+    keeps = k .keeps;
     ended = k .ended;
     sequence = c ∙ k .sequence;
     steps = subst (λ (q : sequence.Sequence). Every (Traced (logOf (k .before) ++ entriesIn (run (k .before)) (k .last))) (stepsOf q)) (sym c) (k .steps);
@@ -143,16 +145,17 @@ module _ (events : List Event) (e : Event) where
 
   kept-more :
       (stepsOf (run events .sequence) ≡ []) ⊎ KeptBy events
-      → Sequence (run events) (logOf events ++ entriesIn (run events) e) (apply (run events) e .master)
+      → Sequence (run events) (doesKeep e) (logOf events ++ entriesIn (run events) e) (apply (run events) e .master)
       → (stepsOf (run all .sequence) ≡ []) ⊎ KeptBy all
   kept-more (inl z) (inl c) = inl (ap (λ (m : Master). stepsOf (m .sequence)) more ∙ ap stepsOf c ∙ z)
   kept-more (inr k) (inl c) = inr (kept-still (ap (λ (m : Master). m .sequence) more ∙ c) k)
-  kept-more k (inr (i, r, t)) = inr (record {
+  kept-more k (inr (i, y, r, t)) = inr (record {
     before = events;
     last = e;
     after = [];
     all = refl;
     recording = i;
+    keeps = y;
     ended = ap (λ (m : Master). m .state) more ∙ r;
     sequence = refl;
     steps = subst (λ (m : Master). Every (Traced (logOf events ++ entriesIn (run events) e)) (stepsOf (m .sequence))) (sym more) t;
@@ -160,7 +163,7 @@ module _ (events : List Event) (e : Event) where
 
   one-more : Traces events → Traces all
   one-more h =
-      let n = apply-next (run events) (logOf events) (h .good) e in
+      let n = apply-next (run events) (logOf events) (h .good) (doesKeep e) e refl in
       record {
         good = subst (λ (m : Master). Good m (logOf all)) (sym more) (subst (Good (apply (run events) e .master)) (sym (log-more events e newMaster [])) (n .good));
         kept = kept-more (h .kept) (n .sequence);
@@ -242,20 +245,37 @@ recorded events = go (traces events .kept)
     go (inl z) = rw z tt
     go (inr k) = by k
 
--- ---- and nothing is lost
+-- ---- all that is kept
 
-complete :
+exact :
     (before : List Event) (last : Event) → isRecording (run before) ≡ true → doesKeep last ≡ true → run (before ++ last ∷ []) .state ≡ state.ready
-    → Complete (logOf before ++ entriesIn (run before) last) (stepsOf (run (before ++ last ∷ []) .sequence))
-complete before last i k z =
-    subst (λ (m : Master). Complete (logOf before ++ entriesIn (run before) last) (stepsOf (m .sequence))) (sym (more before last))
-    (apply-whole (run before) (logOf before) (traces before .good) last k i (ap (λ (m : Master). m .state) (sym (more before last)) ∙ z))
+    → stepsOf (run (before ++ last ∷ []) .sequence) ≡ keptFrom (logOf before ++ entriesIn (run before) last) (stepsOf (run before .sequence))
+exact before last i k z =
+    ap (λ (m : Master). stepsOf (m .sequence)) (more before last)
+    ∙ apply-whole (run before) (logOf before) (traces before .good) true last k i (ap (λ (m : Master). m .state) (sym (more before last)) ∙ z)
+
+others :
+    (before : List Event) (last : Event)
+    → (isRecording (run before) && doesKeep last && eqb (run (before ++ last ∷ []) .state) state.ready) ≡ false
+    → run (before ++ last ∷ []) .sequence ≡ run before .sequence
+others before last n =
+    ap (λ (m : Master). m .sequence) (more before last)
+    ∙ go (apply-next (run before) (logOf before) (traces before .good) (doesKeep last) last refl .sequence)
+  where
+    go :
+        Sequence (run before) (doesKeep last) (logOf before ++ entriesIn (run before) last) (apply (run before) last .master)
+        → apply (run before) last .master .sequence ≡ run before .sequence
+    go (inl c) = c
+    go (inr (i, y, r, t)) =
+        let z = eq-eqb _ 1 (ap (λ (m : Master). m .state) (more before last) ∙ r) in
+        absurd (true≢false (sym (all-true _ _ (all-true _ _ i y) z) ∙ n))
 
 pub promises : Promises
 promises = record {
   recorded = recorded;
   kept = λ events. traces events .kept;
-  complete = complete;
+  exact = exact;
+  others = others;
   happened = happened;
   happened-last = happened-last;
   sound = λ m g. subst (λ (n : Master). Sound (n .recording)) (g .1) (traces (g .0) .good .sound);

@@ -1,2 +1,3 @@
 pub mod Log
+pub mod Steps
 pub mod Promises

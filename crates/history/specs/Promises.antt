@@ -7,13 +7,10 @@ use mathlib.Core.Bool.{Bool, true, false, _&&_}
 use mathlib.Core.Logic.{_⊎_}
 use mathlib.Core.List.{List, [], _∷_, _++_}
 use lib.Dec.{eqb}
-use Rattle.octets.specs.Pick.{pick}
-use Rattle.arrays.specs.Arrays.{those}
 use Rattle.arrays.specs.Every.{Every}
 use Rattle.message.specs.declared.Status.the-variants.{AtOnce, Started, Done}
 use Rattle.sequence.specs.Sequence.{stepsOf}
 use Rattle.sequence.specs.declared.Step.{Step}
-use Rattle.recording.specs.Indication.{status}
 use Rattle.recording.specs.Promises.{Sound, SoundSequence}
 use Rattle.playback.specs.Promises.{Tidy}
 use Rattle.master.specs.declared.Master.{Master}
@@ -21,31 +18,7 @@ use Rattle.master.specs.States as state
 use Rattle.master.specs.States.{isRecording}
 use Rattle.events.specs.Events.{Event, on, off, «record», stop, cancel, start, abort, attach, enable, disable, report, lost, indication, clientAbort, tick, answer, apply, run, Given}
 use Rattle.history.specs.Log.{Entry, entryOf, entriesIn, logOf}
-
--- ---- the indications of a step
-
--- of this client and TAN, and answered 00
-abbrev pub isAccepted : ℕ → ℕ → Entry → Bool
-isAccepted slot tan x = (eqb slot (x .slot) && eqb tan (x .message .tan)) && eqb (x .error) 0x00
-
--- of the step that b began, accepted, and of status 10, done
-abbrev pub isFinish : Entry → Entry → Bool
-isFinish b x =
-    isAccepted (b .slot) (b .message .tan) x
-    && ((eqb (b .message .function) (x .message .function) && eqb (b .message .state) (x .message .state)) && eqb (status (x .message)) 0b10)
-
--- the first of the log that passes the test
-abbrev pub FirstOf : (Entry → Bool) → List Entry → Entry → Type 0
-FirstOf p log x = (others : List Entry) × (those p log ≡ x ∷ others)
-
--- "slot, function, state, trigger kind and mark of the indication that began it": "The mark is ticks since the start, or millimetres if the preferred
--- trigger is 2 in the pool then loaded"
-pub record Begins (x : Entry) (s : Step) : Type 0 where
-  pub slot : s .slot ≡ x .slot
-  pub function : s .function ≡ x .message .function
-  pub state : s .state ≡ x .message .state
-  pub kind : s .distance ≡ pick (eqb (x .trigger) 2) 1 0
-  pub mark : s .mark ≡ pick (eqb (x .trigger) 2) (x .distance) (x .ticks)
+use Rattle.history.specs.Steps.{isAccepted, isFinish, FirstOf, Begins, keptFrom}
 
 -- ---- from the run
 
@@ -94,32 +67,6 @@ pub record Traced (log : List Entry) (s : Step) : Type 0 where
   -- its value, untouched
   pub value : s .value ≡ finished .message .value
 
--- the run up to the call that ended the recording, that call, which may be its last indication, and the calls after it, which keep the sequence
-pub record KeptBy (events : List Event) : Type 0 where
-  pub before : List Event
-  pub last : Event
-  pub after : List Event
-  pub all : events ≡ before ++ last ∷ after
-  pub recording : isRecording (run before) ≡ true
-  pub ended : run (before ++ last ∷ []) .state ≡ state.ready
-  pub sequence : run events .sequence ≡ run (before ++ last ∷ []) .sequence
-  pub steps : Every (Traced (logOf before ++ entriesIn (run before) last)) (stepsOf (run events .sequence))
-
--- ---- and nothing that was finished is lost
-
-abbrev pub Some : {X : Type 0} → (X → Type 0) → List X → Type 0
-Some P [] = ⊥
-Some P (x ∷ l) = P x ⊎ Some P l
-
--- each indication that began a step has its step, if it is of status 00 or another says done
-pub record Complete (log : List Entry) (steps : List Step) : Type 0 where
-  pub at-once :
-      (b : Entry) → FirstOf (isAccepted (b .slot) (b .message .tan)) log b → b .message .status ≡ AtOnce
-      → Some (λ s. Begins b s × (s .value ≡ b .message .value)) steps
-  pub finished :
-      (b f : Entry) → FirstOf (isAccepted (b .slot) (b .message .tan)) log b → FirstOf (isFinish b) log f
-      → Some (λ s. Begins b s × (s .value ≡ f .message .value)) steps
-
 -- "Record: stop goes to record complete if a step is open, else ready; record complete goes to ready when none is open": the calls by which a recording
 -- ends and is kept; "cancel, the loss or disabling of an enabled client, or tick 36,000 goes to ready and keeps the old sequence"
 abbrev pub doesKeep : Event → Bool
@@ -140,15 +87,33 @@ doesKeep (clientAbort slot msg) = false
 doesKeep (tick mm out) = false
 doesKeep (answer slot msg out) = false
 
+-- the run up to the call that ended the recording, that call, which may be its last indication, and the calls after it, which keep the sequence
+pub record KeptBy (events : List Event) : Type 0 where
+  pub before : List Event
+  pub last : Event
+  pub after : List Event
+  pub all : events ≡ before ++ last ∷ after
+  pub recording : isRecording (run before) ≡ true
+  pub keeps : doesKeep last ≡ true
+  pub ended : run (before ++ last ∷ []) .state ≡ state.ready
+  pub sequence : run events .sequence ≡ run (before ++ last ∷ []) .sequence
+  pub steps : Every (Traced (logOf before ++ entriesIn (run before) last)) (stepsOf (run events .sequence))
+
 -- ---- all of it
 
 pub record Promises : Type 0 where
   pub recorded : (events : List Event) → Every (Recorded events) (stepsOf (run events .sequence))
   -- the same in the words of the log, which say which of the indications those two are: a sequence has no step, or each is traced to one recording
   pub kept : (events : List Event) → (stepsOf (run events .sequence) ≡ []) ⊎ KeptBy events
-  pub complete :
+  -- where a recording ends and is kept, the steps are those that its log gives, each once and in their order, and no other
+  pub exact :
       (before : List Event) (last : Event) → isRecording (run before) ≡ true → doesKeep last ≡ true → run (before ++ last ∷ []) .state ≡ state.ready
-      → Complete (logOf before ++ entriesIn (run before) last) (stepsOf (run (before ++ last ∷ []) .sequence))
+      → stepsOf (run (before ++ last ∷ []) .sequence) ≡ keptFrom (logOf before ++ entriesIn (run before) last) (stepsOf (run before .sequence))
+  -- and no other call changes the sequence
+  pub others :
+      (before : List Event) (last : Event)
+      → (isRecording (run before) && doesKeep last && eqb (run (before ++ last ∷ []) .state) state.ready) ≡ false
+      → run (before ++ last ∷ []) .sequence ≡ run before .sequence
   -- the log is of the run
   pub happened : (events : List Event) → Every (Happened events) (logOf events)
   pub happened-last : (before : List Event) (e : Event) → Every (Happened (before ++ e ∷ [])) (entriesIn (run before) e)
