@@ -72,7 +72,7 @@ impl Master {
     }
 
     // Writes E.2, 8 bytes.
-    pub fn enable(self, slot: usize, out: &mut [u8]) -> Outcome
+    pub fn enable(mut self, slot: usize, out: &mut [u8]) -> Outcome
         ensures { λ r. ⌜ r ≡ wantOf 1 self slot (length (now (out .entry))) ⌝ }
         ensures { λ _. ⌜ now (out .exit) ≡ wantOut 1 self slot (now (out .entry)) ⌝ }
     {
@@ -80,7 +80,7 @@ impl Master {
     }
 
     // Writes E.2, 8 bytes.
-    pub fn disable(self, slot: usize, out: &mut [u8]) -> Outcome
+    pub fn disable(mut self, slot: usize, out: &mut [u8]) -> Outcome
         ensures { λ r. ⌜ r ≡ wantOf 0 self slot (length (now (out .entry))) ⌝ }
         ensures { λ _. ⌜ now (out .exit) ≡ wantOut 0 self slot (now (out .entry)) ⌝ }
     {
@@ -109,7 +109,7 @@ impl Master {
     }
 
     // The state that a client reports, as F.3 numbers them.
-    pub fn report(self, slot: usize, report: u32) -> Outcome
+    pub fn report(mut self, slot: usize, report: u32) -> Outcome
         ensures { λ r. ⌜ r ≡ reportOf self slot report ⌝ }
     {
         let known = report_from(report);

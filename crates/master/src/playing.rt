@@ -38,7 +38,7 @@ impl Master {
     }
 
     // The operator's word.
-    pub fn abort(self) -> Outcome
+    pub fn abort(mut self) -> Outcome
         ensures { λ r. ⌜ r ≡ abortOf self ⌝ }
     {
         if self.state == PLAYBACK {
@@ -48,7 +48,7 @@ impl Master {
     }
 
     // E.3.
-    pub fn client_abort(self, slot: usize, msg: &[u8]) -> Outcome
+    pub fn client_abort(mut self, slot: usize, msg: &[u8]) -> Outcome
         ensures { λ r. ⌜ r ≡ clientAbortOf self slot (now (msg .entry)) ⌝ }
     {
         let reading = flat::read(0, msg);
@@ -84,7 +84,7 @@ impl Master {
     }
 
     // E.7 in, E.8 out, 8 bytes.
-    pub fn answer(self, slot: usize, msg: &[u8], out: &mut [u8]) -> Outcome
+    pub fn answer(mut self, slot: usize, msg: &[u8], out: &mut [u8]) -> Outcome
         ensures { λ r. ⌜ r ≡ answerOf self slot (now (msg .entry)) (length (now (out .entry))) ⌝ }
         ensures { λ _. ⌜ now (out .exit) ≡ answerOut self slot (now (msg .entry)) (now (out .entry)) ⌝ }
     {

@@ -79,7 +79,7 @@ impl Master {
         self.finished().gives(0)
     }
 
-    pub fn cancel(self) -> Outcome
+    pub fn cancel(mut self) -> Outcome
         ensures { λ r. ⌜ r ≡ cancelOf self ⌝ }
     {
         if (self.state == RECORD) | (self.state == RECORD_COMPLETE) {
@@ -134,7 +134,7 @@ impl Master {
     }
 
     // E.4 in, E.5 out, 8 bytes.
-    pub fn indication(self, slot: usize, msg: &[u8], out: &mut [u8]) -> Outcome
+    pub fn indication(mut self, slot: usize, msg: &[u8], out: &mut [u8]) -> Outcome
         ensures { λ r. ⌜ r ≡ indicationOf self slot (now (msg .entry)) (length (now (out .entry))) ⌝ }
         ensures { λ _. ⌜ now (out .exit) ≡ indicationOut self slot (now (msg .entry)) (now (out .entry)) ⌝ }
     {

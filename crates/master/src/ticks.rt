@@ -73,7 +73,7 @@ impl Master {
     }
 
     // Fills 576 bytes: nine to a frame, the slot and E.6.
-    pub fn tick(self, mm: u32, out: &mut [u8]) -> Outcome
+    pub fn tick(mut self, mm: u32, out: &mut [u8]) -> Outcome
         ensures { λ r. ⌜ r ≡ tickOf self mm (length (now (out .entry))) ⌝ }
         ensures { λ _. ⌜ now (out .exit) ≡ tickOut self mm (now (out .entry)) ⌝ }
     {
