@@ -1,1 +1,2 @@
 pub mod HowLate
+pub mod Sample

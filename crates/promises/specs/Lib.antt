@@ -1,2 +1,3 @@
 pub mod HowLate
+pub mod Sample
 pub mod Promises

@@ -8,6 +8,7 @@ use Rattle.history.specs.Promises as history
 use Rattle.playback.specs.Promises.{Verifies, Agrees, Keeps, Framing}
 use Rattle.plays.specs.Promises as plays
 use Rattle.promises.specs.HowLate.{HowLate}
+use Rattle.promises.specs.Sample.{Sample}
 
 pub record Promises : Type 0 where
   -- "1. No pool, message or order of calls makes it misbehave.": of every event in every state; with it "starts exactly when", and the starred cases
@@ -30,3 +31,5 @@ pub record Promises : Type 0 where
   pub frames : Framing
   pub state : Keeps
   pub how-late : HowLate
+  -- a run that meets what they ask for
+  pub sample : Sample

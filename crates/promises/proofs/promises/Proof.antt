@@ -2,6 +2,7 @@
 -- Assumes nothing.
 use borrow.Author.Needs.{needs}
 use Rattle.promises.proofs.HowLate.{how-late}
+use Rattle.promises.proofs.Sample.{sample}
 use Rattle.promises.proofs.promises.Statement.{statement}
 use Rattle.promises.proofs.promises.Tie as tie
 
@@ -26,6 +27,7 @@ returns c =
       frames = at-playback .promises5 .ensures .1 .1 .1 .0;
       state = at-playback .promises5 .ensures .1 .1 .0;
       how-late = how-late (c .promises6 .ensures);
+      sample = sample;
     }
 
 pub promises-spec : {M : Type 1} → statement M
