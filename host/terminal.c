@@ -142,8 +142,8 @@ static void plot_end(uint8_t depth)
     }
     demand("stop", scm_stop(&m));
     demand("step", scm_step(&m, 0, &step));
-    printf("recorded: function %u, state %u, value %u, mark %u\n", (unsigned)step.step.function, (unsigned)step.step.state,
-           (unsigned)step.step.value, (unsigned)step.step.mark);
+    printf("recorded: function %u, state %u, value %u, mark %u\n", (unsigned)step.function, (unsigned)step.state,
+           (unsigned)step.value, (unsigned)step.mark);
     demand("report", scm_report(&m, 0, SCM_REPORT_READY));
     demand("start", scm_start(&m));
     for (unsigned n = 1; n <= 4; n++) {

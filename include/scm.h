@@ -9,10 +9,99 @@
 #include <stdint.h>
 
 #ifdef __cplusplus
+#define SCM_HOLDS(fact) static_assert(fact, "not the layout of libscm.a: " #fact)
 extern "C" {
+#else
+#define SCM_HOLDS(fact) _Static_assert(fact, "not the layout of libscm.a: " #fact)
 #endif
 
+/* ---- The numbers that calls give back, from the table of document 01
+
+   Where several apply: 1, 4, 3, 2, then the rest in the order that the call's own rule gives. Every number but SCM_OK leaves the master and
+   all lent memory unchanged. */
+enum scm_number {
+    SCM_OK = 0,                     /* done */
+    SCM_TOO_SHORT = 1,              /* lent output too short */
+    SCM_WRONG_STATE = 2,            /* not allowed in this state */
+    SCM_WRONG_SLOT = 3,             /* slot above 7, empty, or (attaching) taken, or NAME already attached */
+    SCM_WRONG_VALUE = 4,            /* message of wrong length, code unknown here, value not allowed, report of no known state, tick of more than
+                                       65,535 mm, scale not finite and above zero */
+    SCM_NOT_EXPECTED = 5,           /* message not expected now: send a NACK */
+    SCM_POOL_REFUSED = 6,           /* pool refused, with the D.9 code and object number */
+    SCM_NO_STEP = 7,                /* sequence has no step */
+    SCM_NOT_ENABLED = 8,            /* a client of the sequence is not enabled */
+    SCM_NAME_DIFFERS = 9,           /* a NAME differs */
+    SCM_LABEL_DIFFERS = 10,         /* a label differs */
+    SCM_NOT_IN_POOL = 11,           /* function or state not in the loaded pool */
+    SCM_NOT_READY = 12,             /* a client is not reporting ready */
+    SCM_NOT_DISABLED = 13,          /* a client is still not disabled */
+    SCM_NO_CLIENT = 14,             /* no enabled client */
+    SCM_NO_MATCH = 15               /* answer matches no sent step; ignored */
+};
+
+/* What a number says, for a log or a screen. */
+static inline const char *scm_number_text(uint8_t number)
+{
+    switch (number) {
+    case SCM_OK: return "done";
+    case SCM_TOO_SHORT: return "lent output too short";
+    case SCM_WRONG_STATE: return "not allowed in this state";
+    case SCM_WRONG_SLOT: return "slot above 7, empty or taken, or NAME already attached";
+    case SCM_WRONG_VALUE: return "message of wrong length or unknown code, or a value that is not allowed";
+    case SCM_NOT_EXPECTED: return "message not expected now";
+    case SCM_POOL_REFUSED: return "pool refused";
+    case SCM_NO_STEP: return "sequence has no step";
+    case SCM_NOT_ENABLED: return "a client of the sequence is not enabled";
+    case SCM_NAME_DIFFERS: return "a NAME differs";
+    case SCM_LABEL_DIFFERS: return "a label differs";
+    case SCM_NOT_IN_POOL: return "function or state not in the loaded pool";
+    case SCM_NOT_READY: return "a client is not reporting ready";
+    case SCM_NOT_DISABLED: return "a client is still not disabled";
+    case SCM_NO_CLIENT: return "no enabled client";
+    case SCM_NO_MATCH: return "answer matches no sent step";
+    default: return "no number of a call";
+    }
+}
+
 /* ---- The pool */
+
+/* The codes of D.9. 08 is never given: a pool holds no strings. */
+enum scm_pool_code {
+    SCM_POOL_TAKEN = 0x00,
+    SCM_POOL_UNKNOWN_TYPE = 0x01,
+    SCM_POOL_NO_BASE = 0x02,
+    SCM_POOL_NO_FUNCTION = 0x03,
+    SCM_POOL_NO_STATE = 0x04,
+    SCM_POOL_NUMBER_TWICE = 0x05,
+    SCM_POOL_FUNCTION_TWICE = 0x06,
+    SCM_POOL_STATE_TWICE = 0x07,
+    SCM_POOL_VERSION_LENGTH = 0x09,
+    SCM_POOL_VERSION_BYTES = 0x0A,
+    SCM_POOL_CONFIGURATION_LENGTH = 0x0B,
+    SCM_POOL_WRONG_VERSION = 0x0C,
+    SCM_POOL_OTHER = 0xFF
+};
+
+/* What a code of D.9 says. */
+static inline const char *scm_pool_code_text(uint8_t code)
+{
+    switch (code) {
+    case SCM_POOL_TAKEN: return "taken";
+    case SCM_POOL_UNKNOWN_TYPE: return "object type is not 0, 1 or 2";
+    case SCM_POOL_NO_BASE: return "no base object";
+    case SCM_POOL_NO_FUNCTION: return "a listed function is absent";
+    case SCM_POOL_NO_STATE: return "a listed state is absent";
+    case SCM_POOL_NUMBER_TWICE: return "object number seen before";
+    case SCM_POOL_FUNCTION_TWICE: return "two listed functions with one function ID";
+    case SCM_POOL_STATE_TWICE: return "two states of one function with one state ID";
+    case SCM_POOL_VERSION_LENGTH: return "version label is not of 1 to 63 bytes";
+    case SCM_POOL_VERSION_BYTES: return "version label has a byte that is not allowed";
+    case SCM_POOL_CONFIGURATION_LENGTH: return "configuration label is not of 1 to 63 bytes";
+    case SCM_POOL_WRONG_VERSION: return "version of the standard is not 2";
+    case SCM_POOL_OTHER: return "an object is cut, a field is out of its range, or the pool is too long";
+    default: return "no code of a pool's check";
+    }
+}
 
 /* A code of D.9 and the number of the first faulty object. Success is code 0x00 and object 0xFFFF. */
 typedef struct scm_verdict {
@@ -322,23 +411,43 @@ typedef struct scm_outcome {
     scm_master master;
 } scm_outcome;
 
-/* What the readers give: number is 0, or 3 where there is no such slot or step, and then all else is 0. */
-typedef struct scm_slot_view {
+/* What the readers give by value: number is 0, or 3 where there is no such slot or step, and then all else is 0. */
+typedef struct scm_slot_result {
     uint8_t number;
+    uint8_t taken;
+    uint8_t wanted;
+    uint8_t report;
+    uint64_t name;
+} scm_slot_result;
+
+typedef struct scm_step_result {
+    uint8_t number;
+    scm_sequence_step step;
+} scm_step_result;
+
+typedef struct scm_client_result {
+    uint8_t number;
+    scm_client_record client;
+} scm_client_result;
+
+/* The same for a host, one level deep. */
+typedef struct scm_slot_view {
     uint8_t taken;
     uint8_t wanted;
     uint8_t report;
     uint64_t name;
 } scm_slot_view;
 
-typedef struct scm_step_view {
-    uint8_t number;
-    scm_sequence_step step;
-} scm_step_view;
+typedef scm_sequence_step scm_step_view;
 
 typedef struct scm_client_view {
-    uint8_t number;
-    scm_client_record client;
+    uint8_t used;
+    uint64_t name;
+    uint64_t master_name;
+    uint8_t version_length;
+    uint8_t version[63];
+    uint8_t configuration_length;
+    uint8_t configuration[63];
 } scm_client_view;
 
 /* The calls by value; the wrappers below are what a host uses. */
@@ -360,10 +469,10 @@ scm_outcome scm_master_abort(scm_master master);
 scm_outcome scm_master_tick(scm_master master, uint32_t mm, uint8_t *frames, size_t frames_len);
 scm_outcome scm_master_answer(scm_master master, size_t slot, const uint8_t *msg, size_t msg_len, uint8_t *out, size_t out_len);
 uint8_t scm_master_state(scm_master master);
-scm_slot_view scm_master_slot(scm_master master, size_t slot);
+scm_slot_result scm_master_slot(scm_master master, size_t slot);
 size_t scm_master_step_count(scm_master master);
-scm_step_view scm_master_step(scm_master master, size_t i);
-scm_client_view scm_master_client(scm_master master, size_t slot);
+scm_step_result scm_master_step(scm_master master, size_t i);
+scm_client_result scm_master_client(scm_master master, size_t slot);
 
 /* A master as it is made: inactive, no client, no sequence, TAN 0. */
 static inline void scm_init(scm_master *m)
@@ -498,11 +607,15 @@ static inline uint8_t scm_state(const scm_master *m)
     return scm_master_state(*m);
 }
 
-/* A slot's NAME, wanted and last report. 3 above 7. */
+/* A slot's NAME, wanted and last report; all 0 where it is empty. 3 above 7. */
 static inline uint8_t scm_slot(const scm_master *m, size_t slot, scm_slot_view *view)
 {
-    *view = scm_master_slot(*m, slot);
-    return view->number;
+    scm_slot_result r = scm_master_slot(*m, slot);
+    view->taken = r.taken;
+    view->wanted = r.wanted;
+    view->report = r.report;
+    view->name = r.name;
+    return r.number;
 }
 
 /* How many steps the sequence has. */
@@ -514,16 +627,77 @@ static inline size_t scm_step_count(const scm_master *m)
 /* Step i of the sequence, counted from 0. 3 past the end. */
 static inline uint8_t scm_step(const scm_master *m, size_t i, scm_step_view *view)
 {
-    *view = scm_master_step(*m, i);
-    return view->number;
+    scm_step_result r = scm_master_step(*m, i);
+    *view = r.step;
+    return r.number;
 }
 
 /* What the sequence keeps of a slot's client; used is 0 where it has no step. 3 above 7. */
 static inline uint8_t scm_client(const scm_master *m, size_t slot, scm_client_view *view)
 {
-    *view = scm_master_client(*m, slot);
-    return view->number;
+    scm_client_result r = scm_master_client(*m, slot);
+    view->used = r.client.used;
+    view->name = r.client.name;
+    view->master_name = r.client.master;
+    view->version_length = r.client.version.length;
+    view->configuration_length = r.client.configuration.length;
+    for (size_t i = 0; i < sizeof view->version; i++) {
+        view->version[i] = r.client.version.bytes[i];
+        view->configuration[i] = r.client.configuration.bytes[i];
+    }
+    return r.number;
 }
+
+/* ---- The layout
+
+   Bytes of each struct that crosses to the library, and where its fields stand, on x86-64 Linux. A compiler that lays them out otherwise stops here. */
+#define SCM_LAYOUT(SIZE, FIELD) \
+    SIZE(scm_verdict, 4) FIELD(scm_verdict, code, 0) FIELD(scm_verdict, object, 2) \
+    SIZE(scm_object, 720) FIELD(scm_object, kind, 0) FIELD(scm_object, place, 8) FIELD(scm_object, next, 16) FIELD(scm_object, number, 24) \
+        FIELD(scm_object, standard, 26) FIELD(scm_object, master, 32) FIELD(scm_object, mask, 40) FIELD(scm_object, name, 48) \
+        FIELD(scm_object, picture, 50) FIELD(scm_object, function, 52) FIELD(scm_object, trigger, 53) FIELD(scm_object, attribute, 54) \
+        FIELD(scm_object, minimum, 56) FIELD(scm_object, maximum, 60) FIELD(scm_object, offset, 64) FIELD(scm_object, scale, 68) \
+        FIELD(scm_object, decimals, 72) FIELD(scm_object, unit, 74) FIELD(scm_object, state, 76) FIELD(scm_object, n, 77) FIELD(scm_object, m, 78) \
+        FIELD(scm_object, count, 79) FIELD(scm_object, version, 80) FIELD(scm_object, configuration, 143) FIELD(scm_object, list, 206) \
+    SIZE(scm_rewritten, 4) FIELD(scm_rewritten, number, 0) FIELD(scm_rewritten, code, 1) FIELD(scm_rewritten, object, 2) \
+    SIZE(scm_label, 64) FIELD(scm_label, length, 0) FIELD(scm_label, bytes, 1) \
+    SIZE(scm_profile, 2448) FIELD(scm_profile, master, 0) FIELD(scm_profile, mask, 8) FIELD(scm_profile, version, 16) \
+        FIELD(scm_profile, configuration, 80) FIELD(scm_profile, trigger, 144) FIELD(scm_profile, states, 400) \
+    SIZE(scm_capability, 10) FIELD(scm_capability, version, 0) FIELD(scm_capability, width, 1) FIELD(scm_capability, height, 2) \
+        FIELD(scm_capability, characters, 4) FIELD(scm_capability, colour, 6) FIELD(scm_capability, size, 7) FIELD(scm_capability, font, 8) \
+        FIELD(scm_capability, style, 9) \
+    SIZE(scm_message_step, 12) FIELD(scm_message_step, function, 0) FIELD(scm_message_step, state, 1) FIELD(scm_message_step, status, 2) \
+        FIELD(scm_message_step, error, 3) FIELD(scm_message_step, tan, 4) FIELD(scm_message_step, value, 8) \
+    SIZE(scm_message, 100) FIELD(scm_message, kind, 0) FIELD(scm_message, code, 1) FIELD(scm_message, reason, 2) FIELD(scm_message, object, 4) \
+        FIELD(scm_message, memory, 8) FIELD(scm_message, capability, 12) FIELD(scm_message, step, 24) FIELD(scm_message, label, 36) \
+    SIZE(scm_message_reading, 104) FIELD(scm_message_reading, number, 0) FIELD(scm_message_reading, message, 4) \
+    SIZE(scm_written, 16) FIELD(scm_written, number, 0) FIELD(scm_written, length, 8) \
+    SIZE(scm_shown_value, 16) FIELD(scm_shown_value, number, 0) FIELD(scm_shown_value, value, 8) \
+    SIZE(scm_slot_state, 2464) FIELD(scm_slot_state, taken, 0) FIELD(scm_slot_state, wanted, 1) FIELD(scm_slot_state, report, 2) \
+        FIELD(scm_slot_state, name, 8) FIELD(scm_slot_state, profile, 16) \
+    SIZE(scm_client_record, 152) FIELD(scm_client_record, used, 0) FIELD(scm_client_record, name, 8) FIELD(scm_client_record, master, 16) \
+        FIELD(scm_client_record, version, 24) FIELD(scm_client_record, configuration, 88) \
+    SIZE(scm_sequence_step, 12) FIELD(scm_sequence_step, slot, 0) FIELD(scm_sequence_step, function, 1) FIELD(scm_sequence_step, state, 2) \
+        FIELD(scm_sequence_step, distance, 3) FIELD(scm_sequence_step, value, 4) FIELD(scm_sequence_step, mark, 8) \
+    SIZE(scm_taken_step, 16) FIELD(scm_taken_step, step, 0) FIELD(scm_taken_step, tan, 12) FIELD(scm_taken_step, status, 13) \
+    SIZE(scm_sent_step, 8) FIELD(scm_sent_step, tan, 0) FIELD(scm_sent_step, answer, 1) FIELD(scm_sent_step, left, 4) \
+    SIZE(scm_sequence, 1992) FIELD(scm_sequence, count, 0) FIELD(scm_sequence, steps, 8) FIELD(scm_sequence, clients, 776) \
+    SIZE(scm_recording, 2256) FIELD(scm_recording, ticks, 0) FIELD(scm_recording, distance, 4) FIELD(scm_recording, count, 8) \
+        FIELD(scm_recording, steps, 16) FIELD(scm_recording, clients, 1040) \
+    SIZE(scm_playback, 528) FIELD(scm_playback, ticks, 0) FIELD(scm_playback, distance, 4) FIELD(scm_playback, sent, 8) \
+        FIELD(scm_playback, commands, 16) \
+    SIZE(scm_master, 24496) FIELD(scm_master, state, 0) FIELD(scm_master, tan, 1) FIELD(scm_master, slots, 8) FIELD(scm_master, sequence, 19720) \
+        FIELD(scm_master, recording, 21712) FIELD(scm_master, playback, 23968) \
+    SIZE(scm_outcome, 24504) FIELD(scm_outcome, number, 0) FIELD(scm_outcome, code, 1) FIELD(scm_outcome, object, 2) FIELD(scm_outcome, count, 4) \
+        FIELD(scm_outcome, master, 8) \
+    SIZE(scm_slot_result, 16) FIELD(scm_slot_result, number, 0) FIELD(scm_slot_result, taken, 1) FIELD(scm_slot_result, wanted, 2) \
+        FIELD(scm_slot_result, report, 3) FIELD(scm_slot_result, name, 8) \
+    SIZE(scm_step_result, 16) FIELD(scm_step_result, number, 0) FIELD(scm_step_result, step, 4) \
+    SIZE(scm_client_result, 160) FIELD(scm_client_result, number, 0) FIELD(scm_client_result, client, 8)
+
+#define SCM_SIZE_HOLDS(type, bytes) SCM_HOLDS(sizeof(type) == bytes);
+#define SCM_FIELD_HOLDS(type, field, at) SCM_HOLDS(offsetof(type, field) == at);
+SCM_LAYOUT(SCM_SIZE_HOLDS, SCM_FIELD_HOLDS)
 
 #ifdef __cplusplus
 }
