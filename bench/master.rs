@@ -1,317 +1,170 @@
-//! Times of the library's master and of the plain model (tests/master/model.rs), in one run: a tick in a playback with
-//! 64 steps sent and as many of them unanswered as there can be, one at rest, an answer, an indication, a start, and
-//! all other calls. Both take an old state and give a new one; the library's is copied whole. Then the stack that each
-//! call needs, measured on a painted stack. Fails where the two give different numbers.
+//! The master's calls. Both sides take an old state and give a new one: the library's is copied whole, the model's cloned.
 
-#![deny(warnings)]
-
-#[allow(dead_code)]
-#[path = "../tests/pool/model.rs"]
-mod check;
-#[allow(dead_code)]
-#[path = "../tests/master/event.rs"]
-mod event;
-#[allow(dead_code)]
-#[path = "../tests/pool/generate.rs"]
-mod generate;
-#[allow(dead_code)]
-#[path = "../tests/master/kept.rs"]
-mod kept;
-#[allow(dead_code)]
-#[path = "../tests/master/library.rs"]
-mod library;
-#[allow(dead_code)]
-#[path = "../tests/master/messages.rs"]
-mod messages;
-#[allow(dead_code)]
-#[path = "../tests/master/model.rs"]
-mod model;
-#[allow(dead_code)]
-#[path = "../tests/master/playback.rs"]
-mod playback;
-#[allow(dead_code)]
-#[path = "../tests/master/recording.rs"]
-mod recording;
-#[allow(dead_code)]
-#[path = "../tests/master/verification.rs"]
-mod verification;
-
-use event::Event;
-use generate::{Pool, Random, Shape, FULL};
-use messages::{Answer, Indication, Status};
-use model::State;
-use std::ffi::c_void;
+use crate::event::Event;
+use crate::handed;
+use crate::library::{ClientResult, Master, Outcome};
+use crate::messages::Status;
+use crate::model;
+use crate::pools;
+use crate::rows::{row, Row};
+use crate::states::{answer, indication, playing, ready, record, record_complete, recorded, tick, Pair};
+use crate::times::{hide, least};
+use std::cell::RefCell;
 use std::mem::size_of;
-use std::process::exit;
 use std::rc::Rc;
-use std::time::Instant;
 
-/// Each time is the least of so many, library and model in turn, of so many calls each.
-const ROUNDS: usize = 60;
-const CALLS: usize = 40;
-
-fn main() {
-    println!("state: {} bytes in, {} bytes out, an event", size_of::<library::Master>(), size_of::<library::Outcome>());
-    let kinds = kinds();
-    println!("the stack holds both, and what the call itself needs");
-    println!("{:44} {:>10} {:>10} {:>7} {:>9}", "event", "library µs", "model µs", "ratio", "stack KB");
-    for kind in &kinds {
-        let (library_time, model_time) = times(kind);
-        let ratio = library_time / model_time;
-        let stack = stack(kind) as f64 / 1024.0;
-        println!("{:44} {library_time:10.2} {model_time:10.2} {ratio:7.1} {stack:9.1}", kind.name);
-    }
-}
-
-/// An event and the state it comes in, as both sides have it.
-struct Kind {
-    name: &'static str,
+/// An event, the state it comes in, lent output, and where the library's outcome goes.
+pub struct Given {
     pair: Pair,
     event: Event,
+    lent: RefCell<Vec<u8>>,
+    outcome: RefCell<Box<Outcome>>,
 }
 
-#[derive(Clone)]
-struct Pair {
-    library: Box<library::Master>,
-    model: model::Master,
+pub fn given(pair: Pair, event: Event) -> Given {
+    let lent = RefCell::new(vec![0; event.room()]);
+    Given { pair, event, lent, outcome: RefCell::new(handed::blank_outcome()) }
 }
 
-impl Pair {
-    fn new() -> Pair {
-        Pair { library: Box::new(library::new()), model: model::Master::new() }
-    }
-
-    /// Does an event, which both must accept.
-    fn does(&mut self, event: Event) {
-        let mut lent = vec![0; event.room()];
-        let given = event.on_library(&self.library, &mut lent);
-        let wanted = event.on_model(&mut self.model, &mut lent);
-        if given.number != 0 || wanted.map(|done| done.count).ok() != Some(given.count) {
-            fail(&format!("{event}: the library gives number {}, count {}", given.number, given.count));
-        }
-        *self.library = given.master;
-    }
+pub fn library_event(it: &Given) -> u64 {
+    let mut outcome = it.outcome.borrow_mut();
+    handed::event(&it.event, &it.pair.library, &mut it.lent.borrow_mut(), &mut outcome);
+    u64::from(outcome.number) << 32 | u64::from(outcome.count) << 8 | u64::from(outcome.master.tan)
 }
 
-fn fail(why: &str) -> ! {
-    eprintln!("bench: {why}");
-    exit(1)
+fn model_event(it: &Given) -> u64 {
+    let mut master = it.pair.model.clone();
+    let outcome = it.event.on_model(&mut master, &mut it.lent.borrow_mut());
+    let (number, count) = outcome.map_or_else(|refused| (refused.number, 0), |done| (0, done.count));
+    u64::from(number) << 32 | u64::from(count) << 8 | u64::from(master.tan)
 }
 
-/// Every call once, those first whose times matter most.
-fn kinds() -> Vec<Kind> {
-    let mut made = Pair::new();
-    made.does(Event::On);
-    let ready = ready();
-    let record = record(&ready);
-    let sequence = recorded(&record);
-    let full = full(&sequence);
-    let tick = Event::Tick { millimetres: 400, room: 576 };
-    let attach = Event::Attach { slot: 0, name: 0, pool: Rc::new(pool(&mut Random::new(14))) };
-    let client_abort = vec![0x31, 0xFF, 0xFF, 0x01, 0xFF, 0xFF, 0xFF, 0xFF];
+/// Nanoseconds of one copy of a state.
+pub fn copy() -> f64 {
+    let (from, mut to) = (Box::new(handed::new()), Box::new(handed::new()));
+    let mut copy = move || {
+        *to = *hide(&*from);
+        u64::from(hide(&*to).tan)
+    };
+    least(&mut [&mut copy])[0]
+}
+
+pub fn rows() -> Vec<Row> {
+    let both = size_of::<Master>() + size_of::<Outcome>();
+    let events = playback_events().into_iter().chain(record_events()).chain(other_events());
+    let rows = events.map(|(call, case, pair, event)| row((call, case), both, given(pair, event), library_event, model_event));
+    rows.chain(readers()).collect()
+}
+
+type Named = (&'static str, &'static str, Pair, Event);
+
+fn playback_events() -> Vec<Named> {
+    let all = playing(64, 15);
+    let last = answer(&all, Status::Finished);
+    let one = recorded(1, 1).after(Event::Start).after(tick());
+    let ends = answer(&one, Status::Finished);
+    let client_abort = Event::ClientAbort { slot: 7, message: vec![0x31, 0xFF, 0xFF, 0x01, 0xFF, 0xFF, 0xFF, 0xFF] };
     vec![
-        kind("tick at rest", &ready, tick.clone()),
-        kind("tick in record", &record, tick.clone()),
-        kind("tick in playback, 64 sent, 15 unanswered", &full, tick),
-        kind("answer, to the last of 64 sent", &full, answer(&full, Status::Finished)),
-        kind("indication, the 64th step", &record, indication(&record, 63)),
-        kind("start, 8 clients and 64 steps", &sequence, Event::Start),
-        kind("attach", &made, attach),
-        kind("enable", &ready, Event::Enable { slot: 7, room: 8 }),
-        kind("disable", &ready, Event::Disable { slot: 7, room: 8 }),
-        kind("report", &ready, Event::Report { slot: 7, report: 0 }),
-        kind("lost", &full, Event::Lost { slot: 7 }),
-        kind("record", &ready, Event::Record),
-        kind("stop, 63 steps", &record, Event::Stop),
-        kind("cancel", &record, Event::Cancel),
-        kind("client_abort", &full, Event::ClientAbort { slot: 7, message: client_abort }),
-        kind("abort", &full, Event::Abort),
-        kind("off", &made, Event::Off),
-        kind("on", &Pair::new(), Event::On),
+        ("scm_tick", "at rest", ready(), tick()),
+        ("scm_tick", "in record, 64 steps", record(8, 64), tick()),
+        ("scm_tick", "in playback, 1st step leaves, 1 frame", playing(0, 0), tick()),
+        ("scm_tick", "in playback, 64th leaves, 1 frame", playing(63, 0), tick()),
+        ("scm_tick", "in playback, 64th leaves, 16 frames", playing(63, 15), tick()),
+        ("scm_tick", "in playback, no answer in time: abort", playing(63, 15).after(tick()), tick()),
+        ("scm_answer", "to the first of 64 steps", playing(1, 1), answer(&playing(1, 1), Status::Finished)),
+        ("scm_answer", "to the last of 64 steps", all.clone(), last),
+        ("scm_answer", "to the only step, playback ends", one, ends),
+        ("scm_start", "8 clients, 64 steps", recorded(8, 64), Event::Start),
+        ("scm_start", "1 client, 1 step", recorded(1, 1), Event::Start),
+        ("scm_abort", "", all.clone(), Event::Abort),
+        ("scm_client_abort", "", all.clone(), client_abort),
+        ("scm_lost", "in playback", all, Event::Lost { slot: 7 }),
     ]
 }
 
-fn kind(name: &'static str, pair: &Pair, event: Event) -> Kind {
-    Kind { name, pair: pair.clone(), event }
+fn record_events() -> Vec<Named> {
+    let (empty, most, all, complete) = (record(8, 0), record(8, 63), record(8, 64), record_complete());
+    vec![
+        ("scm_record", "", ready(), Event::Record),
+        ("scm_indication", "the first step", empty.clone(), indication(&empty, 8, 0, Status::Whole)),
+        ("scm_indication", "the 64th step", most.clone(), indication(&most, 8, 63, Status::Whole)),
+        ("scm_indication", "the open step of 64, recording ends", complete.clone(), indication(&complete, 8, 63, Status::Finished)),
+        ("scm_stop", "no step", empty, Event::Stop),
+        ("scm_stop", "8 clients, 64 steps", all.clone(), Event::Stop),
+        ("scm_cancel", "64 steps", all, Event::Cancel),
+    ]
 }
 
-fn pool(random: &mut Random) -> Vec<u8> {
-    let shape = Shape { functions: 40, states: 8, shortest: 1, longest: 8, unlisted: 0 };
-    let mut pool = Pool::legal(random, shape, FULL);
-    pool.states.iter_mut().zip(0..).for_each(|(state, id)| state.state_id = id);
-    let first = pool.base().functions[0];
-    let wanted = pool.states[2].number;
-    for function in pool.functions.iter_mut() {
-        if function.number == first {
-            function.preferred_trigger = 1;
-            function.states = vec![wanted];
-        }
-    }
-    pool.bytes()
+fn other_events() -> Vec<Named> {
+    let on = Pair::new().after(Event::On);
+    let attach = |pool: Vec<u8>| Event::Attach { slot: 0, name: 0, pool: Rc::new(pool) };
+    vec![
+        ("scm_attach", "61 bytes", on.clone(), attach(pools::small())),
+        ("scm_attach", "40 functions of 8 states", on.clone(), attach(pools::middle())),
+        ("scm_attach", "16,384 bytes, many functions", on.clone(), attach(pools::many_functions())),
+        ("scm_attach", "16,384 bytes, long lists", on.clone(), attach(pools::long_lists())),
+        ("scm_attach", "long lists of alike numbers", on.clone(), attach(pools::alike_numbers())),
+        ("scm_enable", "", ready(), Event::Enable { slot: 7, room: 8 }),
+        ("scm_disable", "", ready(), Event::Disable { slot: 7, room: 8 }),
+        ("scm_report", "ready", ready(), Event::Report { slot: 7, report: 1 }),
+        ("scm_report", "abort, in playback", playing(64, 15), Event::Report { slot: 7, report: 5 }),
+        ("scm_report", "disabled, the slot empties", ready(), Event::Report { slot: 7, report: 0 }),
+        ("scm_on", "", Pair::new(), Event::On),
+        ("scm_off", "", on, Event::Off),
+    ]
 }
 
-/// Eight clients, ready.
-fn ready() -> Pair {
-    let random = &mut Random::new(14);
-    let mut pair = Pair::new();
-    pair.does(Event::On);
-    for slot in 0..8 {
-        pair.does(Event::Attach { slot, name: slot as u64, pool: Rc::new(pool(random)) });
-        pair.does(Event::Enable { slot, room: 8 });
-        pair.does(Event::Report { slot, report: 1 });
-    }
-    pair
+/// The model reads what the library is handed a copy of.
+fn readers() -> Vec<Row> {
+    let pair = recorded(8, 64);
+    let one = size_of::<Master>();
+    vec![
+        row(("scm_init", ""), one, (), |_| u64::from(handed::new().state), |_| model_new()),
+        row(("scm_state", ""), one, pair.clone(), |pair| u64::from(handed::state(&pair.library)), model_state),
+        row(("scm_slot", ""), one, pair.clone(), |pair| library_slot(&pair.library), model_slot),
+        row(("scm_step_count", ""), one, pair.clone(), |pair| handed::step_count(&pair.library) as u64, model_count),
+        row(("scm_step", "the last of 64"), one, pair.clone(), |pair| library_step(&pair.library), model_step),
+        row(("scm_client", ""), one + size_of::<ClientResult>(), pair, |pair| library_client(&pair.library), model_client),
+    ]
 }
 
-/// The step of this place, by the clients in turn.
-fn indication(pair: &Pair, place: u8) -> Event {
-    let slot = usize::from(place % 8);
-    let function = pair.model.client(slot).map_or(0, |client| client.pool.functions[0].id);
-    let it = Indication { function, state: 2, status: Status::Whole, tan: place, value: 240 };
-    Event::Indication { slot, message: messages::indication(&it).to_vec(), room: 8 }
+fn model_new() -> u64 {
+    u64::from(hide(&model::Master::new()).tan)
 }
 
-/// In record, 63 steps held.
-fn record(ready: &Pair) -> Pair {
-    let mut pair = ready.clone();
-    pair.does(Event::Record);
-    (0..8).for_each(|slot| pair.does(Event::Report { slot, report: 2 }));
-    (0..63).for_each(|place| pair.does(indication(ready, place)));
-    pair
+fn model_state(pair: &Pair) -> u64 {
+    u64::from(pair.model.ready().is_ok())
 }
 
-/// Ready, with a sequence of 64 steps that are all due at once.
-fn recorded(record: &Pair) -> Pair {
-    let mut pair = record.clone();
-    pair.does(indication(record, 63));
-    pair.does(Event::Stop);
-    (0..8).for_each(|slot| pair.does(Event::Report { slot, report: 1 }));
-    pair
+fn model_count(pair: &Pair) -> u64 {
+    pair.model.sequence.steps.len() as u64
 }
 
-/// In playback: all 64 have left, one a tick; the first 49 were started. A step stays unanswered for 15 ticks at most
-/// before the next tick aborts, so that no tick can write more than 16 frames.
-fn full(sequence: &Pair) -> Pair {
-    let mut pair = sequence.clone();
-    pair.does(Event::Start);
-    for place in 0..64 {
-        pair.does(Event::Tick { millimetres: 0, room: 576 });
-        if place < 49 {
-            let event = answer(&pair, Status::Started);
-            pair.does(event);
-        }
-    }
-    pair
+fn library_slot(master: &Master) -> u64 {
+    let it = handed::slot(master, 7);
+    it.name << 32 | u64::from(it.number) << 24 | u64::from(it.taken) << 16 | u64::from(it.wanted) << 8 | u64::from(it.report)
 }
 
-/// An answer to the step that left last.
-fn answer(pair: &Pair, status: Status) -> Event {
-    let playback = match &pair.model.state {
-        State::Playback(playback) => playback,
-        _ => fail("no playback"),
-    };
-    let place = playback.commands.len() - 1;
-    let (command, step) = (&playback.commands[place], &pair.model.sequence.steps[place]);
-    let it = Answer { function: step.function, state: step.state, status, error: 0x00, tan: command.tan };
-    Event::Answer { slot: step.slot, message: messages::answer(&it).to_vec(), room: 8 }
+fn model_slot(pair: &Pair) -> u64 {
+    pair.model.client(7).map_or(3 << 24, |client| client.name << 32 | 1 << 16 | u64::from(client.wanted) << 8 | client.report as u64)
 }
 
-/// Microseconds that a call takes, of the library and of the model.
-fn times(kind: &Kind) -> (f64, f64) {
-    let mut lent = vec![0; kind.event.room()];
-    kind.pair.clone().does(kind.event.clone());
-    let (mut library_time, mut model_time) = (f64::MAX, f64::MAX);
-    for _ in 0..ROUNDS {
-        library_time = library_time.min(time(|| {
-            let given = kind.event.on_library(&kind.pair.library, &mut lent);
-            u64::from(given.number) + u64::from(given.master.tan)
-        }));
-        model_time = model_time.min(time(|| {
-            let mut master = kind.pair.model.clone();
-            let given = kind.event.on_model(&mut master, &mut lent);
-            u64::from(given.is_ok()) + u64::from(master.tan)
-        }));
-    }
-    (library_time, model_time)
+fn library_step(master: &Master) -> u64 {
+    let it = handed::step(master, 63);
+    u64::from(it.step.value) << 32 | u64::from(it.number) << 16 | u64::from(it.step.function) << 8 | u64::from(it.step.state)
 }
 
-fn time(mut call: impl FnMut() -> u64) -> f64 {
-    let start = Instant::now();
-    let sum = (0..CALLS).fold(0, |sum: u64, _| sum.wrapping_add(call()));
-    let elapsed = start.elapsed().as_nanos() as f64 / 1_000.0 / CALLS as f64;
-    if sum == u64::MAX {
-        println!();
-    }
-    elapsed
+fn model_step(pair: &Pair) -> u64 {
+    let steps = &pair.model.sequence.steps;
+    steps.get(63).map_or(3 << 16, |step| u64::from(step.value) << 32 | u64::from(step.function) << 8 | u64::from(step.state))
 }
 
-// The stack: a thread runs on memory filled with a pattern; what it did not reach still holds it.
-
-const STACK: usize = 8 << 20;
-const PAINT: u64 = 0xA5C3_5A3C_0FF0_9669;
-
-#[repr(C, align(64))]
-struct Attributes([u64; 32]);
-
-extern "C" {
-    fn pthread_attr_init(attributes: *mut Attributes) -> i32;
-    fn pthread_attr_destroy(attributes: *mut Attributes) -> i32;
-    fn pthread_attr_setstack(attributes: *mut Attributes, stack: *mut c_void, size: usize) -> i32;
-    fn pthread_create(
-        thread: *mut usize,
-        attributes: *const Attributes,
-        body: extern "C" fn(*mut c_void) -> *mut c_void,
-        argument: *mut c_void,
-    ) -> i32;
-    fn pthread_join(thread: usize, given: *mut *mut c_void) -> i32;
+fn library_client(master: &Master) -> u64 {
+    let it = handed::client(master, 7);
+    it.client.master ^ it.client.name ^ u64::from(it.client.version.length) << 32 ^ u64::from(it.number)
 }
 
-/// What a thread is to do.
-struct Task<'a> {
-    kind: &'a Kind,
-    call: bool,
-    lent: Vec<u8>,
-    number: u8,
-}
-
-extern "C" fn body(argument: *mut c_void) -> *mut c_void {
-    // SAFETY: the argument is the task that `depth` lends to the thread until it has joined it.
-    let task = unsafe { &mut *argument.cast::<Task>() };
-    if task.call {
-        task.number = once(task);
-    }
-    argument
-}
-
-#[inline(never)]
-fn once(task: &mut Task) -> u8 {
-    task.kind.event.on_library(&task.kind.pair.library, &mut task.lent).number
-}
-
-/// The bytes of stack that a call needs beyond an empty thread: the state handed over, the state given back, both of
-/// which stand on the caller's stack, and all that is called.
-fn stack(kind: &Kind) -> usize {
-    depth(kind, true) - depth(kind, false)
-}
-
-fn depth(kind: &Kind, call: bool) -> usize {
-    let mut task = Task { kind, call, lent: vec![0; kind.event.room()], number: 0 };
-    let mut memory = vec![PAINT; STACK / 8 + 512];
-    let before = (4096 - memory.as_ptr() as usize % 4096) % 4096 / 8;
-    let painted = &mut memory[before..before + STACK / 8];
-    let mut attributes = Attributes([0; 32]);
-    let mut thread = 0;
-    // SAFETY: the stack and the task outlive the thread, which is joined here; the attributes are larger than libc's.
-    let failed = unsafe {
-        pthread_attr_init(&mut attributes)
-            | pthread_attr_setstack(&mut attributes, painted.as_mut_ptr().cast(), STACK)
-            | pthread_create(&mut thread, &attributes, body, (&mut task as *mut Task).cast())
-            | pthread_join(thread, std::ptr::null_mut())
-            | pthread_attr_destroy(&mut attributes)
-    };
-    if failed != 0 || task.number != 0 {
-        fail("the call on a painted stack failed");
-    }
-    let untouched = painted.iter().take_while(|&&word| word == PAINT).count();
-    STACK - 8 * untouched
+fn model_client(pair: &Pair) -> u64 {
+    let client = pair.model.sequence.clients.get(&7);
+    client.map_or(3, |it| it.master_name ^ it.name ^ (it.version_label.len() as u64) << 32)
 }

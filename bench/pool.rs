@@ -1,125 +1,191 @@
-//! Times of the library's check of a pool and of the plain model that compares every pair (tests/pool/model.rs), in
-//! one run, on full pools of 16,384 bytes: many states, many functions, long state lists; good, and with a fault in the
-//! last object. The goal: the library takes at most 3 times the model's time. Fails where a ratio is above that, or
-//! where the two give different verdicts.
+//! The calls that know no master: on pools, messages and values.
 
-#![deny(warnings)]
+use crate::calls;
+use crate::kept;
+use crate::library::{Message, MessageReading, Object, Profile, Shown};
+use crate::message;
+use crate::objects;
+use crate::pools;
+use crate::rows::{row, Row};
+use crate::{check, generate};
+use std::cell::RefCell;
+use std::mem::size_of;
 
-#[path = "../tests/pool/generate.rs"]
-mod generate;
-#[path = "../tests/pool/model.rs"]
-mod model;
+/// How the cases of a full pool begin.
+pub const FULL: &str = "16,384 bytes";
 
-use generate::{Pool, Random, Shape, FULL};
-use std::process::exit;
-use std::time::Instant;
-
-/// The most that the library's time may be of the model's.
-const GOAL: f64 = 3.0;
-/// Each time is the least of so many, library and model in turn, of so many calls each.
-const ROUNDS: usize = 50;
-const CALLS: usize = 4;
-
-type Check = fn(&[u8]) -> (u8, u16);
-
-#[repr(C)]
-struct Verdict {
-    code: u8,
-    object: u16,
+pub fn rows() -> Vec<Row> {
+    let mut rows = checks();
+    rows.extend(on_pools());
+    rows.extend(messages());
+    rows.extend(values());
+    rows
 }
 
-extern "C" {
-    fn scm_pool_check(pool: *const u8, len: usize) -> Verdict;
-}
-
-fn library(pool: &[u8]) -> (u8, u16) {
-    // SAFETY: the pointer and the length are those of one slice.
-    let verdict = unsafe { scm_pool_check(pool.as_ptr(), pool.len()) };
-    (verdict.code, verdict.object)
-}
-
-fn main() {
-    println!("{:36} {:>8} {:>12} {:>12} {:>6}", "pool", "verdict", "library ns", "model ns", "ratio");
-    let mut worst: f64 = 0.0;
-    for (name, pool) in shapes() {
-        worst = worst.max(compare(name, "good", &pool));
-        worst = worst.max(compare(name, "last number repeats", &number_repeats(&pool)));
-        worst = worst.max(compare(name, "last name FFFF", &out_of_range(&pool)));
-    }
-    println!("bench: worst ratio {worst:.2}, goal {GOAL:.2}");
-    exit(i32::from(worst > GOAL))
-}
-
-/// Bases come first, then states, then functions, so the last object is a function.
-fn shapes() -> [(&'static str, Pool); 3] {
-    let random = &mut Random::new(11_783);
-    let mut shapes = [
-        ("many states", Pool::least(random)),
-        ("many functions", many_functions(random)),
-        ("long lists", long_lists(random)),
+fn checks() -> Vec<Row> {
+    let pools = [
+        ("61 bytes", pools::small()),
+        ("40 functions of 8 states", pools::middle()),
+        ("16,384 bytes, many states", pools::many_states()),
+        ("16,384 bytes, many functions", pools::many_functions()),
+        ("16,384 bytes, long lists", pools::long_lists()),
+        ("long lists of alike numbers", pools::alike_numbers()),
     ];
-    for (_, pool) in &mut shapes {
-        pool.pad(random, FULL, 0);
-        pool.order = None;
+    pools.into_iter().map(|(case, pool)| row(("scm_pool_check", case), 0, pool, library_check, model_check)).collect()
+}
+
+pub fn library_check(pool: &Vec<u8>) -> u64 {
+    let verdict = calls::pool_check(pool);
+    u64::from(verdict.code) << 16 | u64::from(verdict.object)
+}
+
+fn model_check(pool: &Vec<u8>) -> u64 {
+    let (code, object) = check::check(pool);
+    u64::from(code) << 16 | u64::from(object)
+}
+
+fn on_pools() -> Vec<Row> {
+    let kept = |case, pool| row(("scm_profile_of", case), size_of::<Profile>(), pool, library_kept, model_kept);
+    let object = |case, at| row(("scm_object_at", case), size_of::<Object>(), at, library_object, model_object);
+    let rewrite = |case, pool| row(("scm_pool_rewrite", case), 0, lent(pool), library_rewrite, model_rewrite);
+    vec![
+        kept("61 bytes", pools::small()),
+        kept("16,384 bytes, long lists", pools::long_lists()),
+        object("a state", (pools::many_states(), generate::FULL - 8)),
+        object("a base that lists 255 functions", base_first()),
+        rewrite("61 bytes", pools::small()),
+        rewrite("16,384 bytes, many states", pools::many_states()),
+        rewrite("16,384 bytes, long lists", pools::long_lists()),
+    ]
+}
+
+fn library_kept(pool: &Vec<u8>) -> u64 {
+    let profile = calls::profile_of(pool);
+    profile.master ^ profile.mask ^ u64::from(profile.version.length)
+}
+
+fn model_kept(pool: &Vec<u8>) -> u64 {
+    kept::accept(pool).map_or(0, |kept| kept.master_name ^ kept.mask ^ kept.version_label.len() as u64)
+}
+
+/// A pool that begins with its base, and the place of that.
+fn base_first() -> (Vec<u8>, usize) {
+    let mut pool = pools::shaped(255, 0, 0);
+    pool.order = None;
+    (pool.bytes(), 0)
+}
+
+fn library_object((pool, place): &(Vec<u8>, usize)) -> u64 {
+    let object = calls::object_at(pool, *place);
+    object.next as u64 + (u64::from(object.number) << 32) + (u64::from(object.kind) << 56)
+}
+
+fn model_object((pool, place): &(Vec<u8>, usize)) -> u64 {
+    let object = objects::object_at(pool, *place);
+    object.next as u64 + (u64::from(object.number) << 32) + (u64::from(object.kind) << 56)
+}
+
+/// Bytes to be read, and lent ones to be written.
+type Lent = (Vec<u8>, RefCell<Vec<u8>>);
+
+fn lent(bytes: Vec<u8>) -> Lent {
+    let room = bytes.len() + 80;
+    (bytes, RefCell::new(vec![0; room]))
+}
+
+fn library_rewrite((pool, out): &Lent) -> u64 {
+    let answer = calls::pool_rewrite(pool, &mut out.borrow_mut());
+    u64::from(answer.number) << 32 | u64::from(answer.code) << 16 | u64::from(answer.object)
+}
+
+/// The check, and a copy.
+fn model_rewrite((pool, out): &Lent) -> u64 {
+    let refused = check::check(pool).0 != 0;
+    out.borrow_mut()[..pool.len()].copy_from_slice(pool);
+    u64::from(refused)
+}
+
+fn messages() -> Vec<Row> {
+    let read = |case, bytes| row(("scm_message_read", case), size_of::<MessageReading>(), bytes, library_read, model_read);
+    let write = |case, bytes| row(("scm_message_write", case), size_of::<Message>(), to_write(bytes), library_write, model_write);
+    let indication = vec![0x32, 0x05, 0x82, 0x00, 0xF0, 0x00, 0x00, 0x00];
+    let command = vec![0x33, 0x05, 0x02, 0xFF, 0xF0, 0x00, 0x00, 0x00];
+    let mut label = vec![0x01, 0x00, 63];
+    label.extend([b'V'; 63]);
+    vec![
+        read("E.4", (0, indication)),
+        read("D.3, label of 63", (1, label.clone())),
+        write("E.6", command),
+        write("D.3, label of 63", label),
+        row(("scm_transfer_write", "16,384 bytes"), 0, lent(pools::many_states()), library_transfer, model_transfer),
+    ]
+}
+
+fn library_read((side, bytes): &(u32, Vec<u8>)) -> u64 {
+    let reading = calls::read(*side, bytes);
+    u64::from(reading.number) << 8 | u64::from(reading.message.kind)
+}
+
+fn model_read((side, bytes): &(u32, Vec<u8>)) -> u64 {
+    let (number, message) = message::read(*side, bytes);
+    u64::from(number) << 8 | u64::from(message.kind)
+}
+
+/// A message that the master sends, as both have it, and room to write it.
+type Written = (Message, message::Message, RefCell<Vec<u8>>);
+
+fn to_write(bytes: Vec<u8>) -> Written {
+    (calls::read(1, &bytes).message, message::read(1, &bytes).1, RefCell::new(vec![0; 80]))
+}
+
+fn library_write((message, _, out): &Written) -> u64 {
+    let written = calls::write(message, &mut out.borrow_mut());
+    u64::from(written.number) << 32 | written.length as u64
+}
+
+fn model_write((_, message, out): &Written) -> u64 {
+    let (number, bytes) = message::write(message, 80);
+    out.borrow_mut()[..bytes.len()].copy_from_slice(&bytes);
+    u64::from(number) << 32 | bytes.len() as u64
+}
+
+fn library_transfer((pool, out): &Lent) -> u64 {
+    let written = calls::write_transfer(pool, &mut out.borrow_mut());
+    u64::from(written.number) << 32 | written.length as u64
+}
+
+fn model_transfer((pool, out): &Lent) -> u64 {
+    let room = out.borrow().len();
+    let (number, bytes) = message::write_transfer(pool, room);
+    out.borrow_mut()[..bytes.len()].copy_from_slice(&bytes);
+    u64::from(number) << 32 | bytes.len() as u64
+}
+
+fn values() -> Vec<Row> {
+    let given: (u32, i32, f32) = (240, -40, 0.1);
+    vec![
+        row(("scm_shown", "240 - 40, scale 0.1"), 0, given, library_shown, model_shown),
+        row(("scm_shown_bits", "240 - 40, scale 0.1"), 0, given, library_bits, model_shown),
+    ]
+}
+
+fn library_shown(&(value, offset, scale): &(u32, i32, f32)) -> u64 {
+    shown(calls::shown_of(value, offset, scale))
+}
+
+fn shown(given: Shown) -> u64 {
+    given.value.to_bits() + u64::from(given.number)
+}
+
+fn library_bits(&(value, offset, scale): &(u32, i32, f32)) -> u64 {
+    shown(calls::shown_bits(value, offset, scale.to_bits()))
+}
+
+/// "(value + offset) · scale, the sum exact, the product in f64 rounded once."
+fn model_shown(&(value, offset, scale): &(u32, i32, f32)) -> u64 {
+    if !scale.is_finite() || scale <= 0.0 {
+        return 4;
     }
-    shapes
-}
-
-/// 255 functions listed, 260 not.
-fn many_functions(random: &mut Random) -> Pool {
-    let shape = Shape { functions: 255, states: 0, shortest: 0, longest: 0, unlisted: 0 };
-    let mut pool = Pool::legal(random, shape, FULL);
-    for _ in 0..260 {
-        pool.add_unlisted_function(random, 0);
-    }
-    pool
-}
-
-/// 96 functions, each of which lists the same 64 states in another order.
-fn long_lists(random: &mut Random) -> Pool {
-    let shape = Shape { functions: 96, states: 64, shortest: 64, longest: 64, unlisted: 0 };
-    Pool::legal(random, shape, FULL)
-}
-
-fn number_repeats(good: &Pool) -> Pool {
-    let mut pool = good.clone();
-    let last = pool.functions.len() - 1;
-    pool.functions[last].number = pool.states.first().map_or(pool.functions[0].number, |state| state.number);
-    pool
-}
-
-fn out_of_range(good: &Pool) -> Pool {
-    let mut pool = good.clone();
-    let last = pool.functions.len() - 1;
-    pool.functions[last].name = 0xFFFF;
-    pool
-}
-
-/// Prints a row and gives the ratio of the two times.
-fn compare(shape: &str, fault: &str, pool: &Pool) -> f64 {
-    let pool = pool.bytes();
-    assert_eq!(pool.len(), FULL);
-    let verdict = model::check(&pool);
-    let (mut library_time, mut model_time) = (f64::MAX, f64::MAX);
-    for _ in 0..ROUNDS {
-        library_time = library_time.min(time(library, &pool, verdict));
-        model_time = model_time.min(time(model::check, &pool, verdict));
-    }
-    let ratio = library_time / model_time;
-    let name = format!("{shape}, {fault}");
-    let verdict = format!("{:02X} {:04X}", verdict.0, verdict.1);
-    println!("{name:36} {verdict:>8} {library_time:12.0} {model_time:12.0} {ratio:6.2}");
-    ratio
-}
-
-/// Nanoseconds a call takes; fails if it gives another verdict.
-fn time(check: Check, pool: &[u8], verdict: (u8, u16)) -> f64 {
-    let start = Instant::now();
-    for _ in 0..CALLS {
-        if check(pool) != verdict {
-            eprintln!("bench: library and model give different verdicts");
-            exit(1);
-        }
-    }
-    start.elapsed().as_nanos() as f64 / CALLS as f64
+    let sum = i64::from(value) + i64::from(offset);
+    (sum as f64 * f64::from(scale)).to_bits()
 }

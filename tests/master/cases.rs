@@ -1,11 +1,11 @@
 //! The cases of document 01 as fixed runs, with what they must give written out. Each event is compared with the model
 //! too, as in every run.
 
-use crate::event::Event;
-use crate::generate::{Pool, Random, Shape, FULL};
-use crate::messages::{self, Answer, Status};
-use crate::model::State;
-use crate::run::Run;
+use super::event::Event;
+use super::generate::{Pool, Random, Shape, FULL};
+use super::messages::{self, Answer, Status};
+use super::model::State;
+use super::run::Run;
 use std::fmt::Debug;
 use std::rc::Rc;
 
@@ -26,6 +26,7 @@ pub fn all(run: &mut Run) {
     two_depths(run);
     command_and_answer(run);
     state_commands(run);
+    late_client(run);
 }
 
 fn pool() -> Vec<u8> {
@@ -42,7 +43,7 @@ fn pool() -> Vec<u8> {
 
 fn must_be<T: PartialEq + Debug>(what: &str, given: T, meant: T) {
     if given != meant {
-        crate::fail(&format!("case of 01, {what}: {given:02X?}, meant was {meant:02X?}"));
+        super::fail(&format!("case of 01, {what}: {given:02X?}, meant was {meant:02X?}"));
     }
 }
 
@@ -240,4 +241,23 @@ fn state_commands(run: &mut Run) {
     must_be("enable", given, vec![0x30, 0x01, 0xFF, 0x01, 0xFF, 0xFF, 0xFF, 0xFF]);
     let given = answered(run, Event::Disable { slot: 0, room: 8 });
     must_be("disable", given, vec![0x30, 0x00, 0xFF, 0x01, 0xFF, 0xFF, 0xFF, 0xFF]);
+}
+
+/// "A client is enabled if wanted and its last report is not disabled", before the event that is judged: a wanted client whose first report in a
+/// playback is abort does not end it. "Abort goes to ready at the first later report [..] where every enabled client's last report is abort": also at
+/// one by which the last other client is disabled.
+fn late_client(run: &mut Run) {
+    one_client(run);
+    done(run, Event::Attach { slot: 1, name: 0xA000_0000_0000_0002, pool: Rc::new(pool()) });
+    done(run, Event::Enable { slot: 1, room: 8 });
+    recording(run);
+    one_shot(run, TIME, 0);
+    done(run, Event::Stop);
+    playback(run);
+    done(run, Event::Report { slot: 1, report: 5 });
+    must_be("in playback", matches!(run.model.state, State::Playback(_)), true);
+    done(run, Event::Abort);
+    must_be("in abort", run.model.state == State::Abort, true);
+    done(run, Event::Report { slot: 0, report: 0 });
+    must_be("in ready", run.model.state == State::Ready, true);
 }

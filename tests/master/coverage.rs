@@ -1,9 +1,9 @@
 //! What a run met, by name, and what it must meet. A name that is wanted and was not met fails the run; so does a
 //! number, an answer or a transition that was met and is in no table.
 
-use crate::event::Event;
-use crate::facts;
-use crate::model::{Master, Outcome};
+use super::event::Event;
+use super::facts;
+use super::model::{Master, Outcome};
 use std::collections::BTreeMap;
 
 /// Each call and each number that it can give.

@@ -1,7 +1,7 @@
 //! An event: a call on the master with all that is handed over, done on the library and on the model alike.
 
-use crate::library;
-use crate::model::{Master, Outcome};
+use super::library;
+use super::model::{Master, Outcome};
 use std::fmt;
 use std::rc::Rc;
 
@@ -24,6 +24,30 @@ pub enum Event {
     Abort,
     Tick { millimetres: u32, room: usize },
     Answer { slot: usize, message: Vec<u8>, room: usize },
+}
+
+/// The call of an event, in one module or another.
+macro_rules! called {
+    ($event:expr, $m:expr, $out:expr, $($calls:ident)::+) => {
+        match $event {
+            Event::On => $($calls)::+::on($m),
+            Event::Off => $($calls)::+::off($m),
+            Event::Attach { slot, name, pool } => $($calls)::+::attach($m, *slot, *name, pool),
+            Event::Enable { slot, .. } => $($calls)::+::enable($m, *slot, $out),
+            Event::Disable { slot, .. } => $($calls)::+::disable($m, *slot, $out),
+            Event::Report { slot, report } => $($calls)::+::report($m, *slot, *report),
+            Event::Lost { slot } => $($calls)::+::lost($m, *slot),
+            Event::Record => $($calls)::+::record($m),
+            Event::Stop => $($calls)::+::stop($m),
+            Event::Cancel => $($calls)::+::cancel($m),
+            Event::Indication { slot, message, .. } => $($calls)::+::indication($m, *slot, message, $out),
+            Event::ClientAbort { slot, message } => $($calls)::+::client_abort($m, *slot, message),
+            Event::Start => $($calls)::+::start($m),
+            Event::Abort => $($calls)::+::abort($m),
+            Event::Tick { millimetres, .. } => $($calls)::+::tick($m, *millimetres, $out),
+            Event::Answer { slot, message, .. } => $($calls)::+::answer($m, *slot, message, $out),
+        }
+    };
 }
 
 impl Event {
@@ -77,25 +101,14 @@ impl Event {
         }
     }
 
+    /// By the wrappers of the header.
     pub fn on_library(&self, m: &library::Master, out: &mut [u8]) -> library::Outcome {
-        match self {
-            Event::On => library::on(m),
-            Event::Off => library::off(m),
-            Event::Attach { slot, name, pool } => library::attach(m, *slot, *name, pool),
-            Event::Enable { slot, .. } => library::enable(m, *slot, out),
-            Event::Disable { slot, .. } => library::disable(m, *slot, out),
-            Event::Report { slot, report } => library::report(m, *slot, *report),
-            Event::Lost { slot } => library::lost(m, *slot),
-            Event::Record => library::record(m),
-            Event::Stop => library::stop(m),
-            Event::Cancel => library::cancel(m),
-            Event::Indication { slot, message, .. } => library::indication(m, *slot, message, out),
-            Event::ClientAbort { slot, message } => library::client_abort(m, *slot, message),
-            Event::Start => library::start(m),
-            Event::Abort => library::abort(m),
-            Event::Tick { millimetres, .. } => library::tick(m, *millimetres, out),
-            Event::Answer { slot, message, .. } => library::answer(m, *slot, message, out),
-        }
+        called!(self, m, out, library)
+    }
+
+    /// By the calls that give everything by value.
+    pub fn by_value(&self, m: &library::Master, out: &mut [u8]) -> library::Outcome {
+        called!(self, m, out, library::value)
     }
 
     pub fn on_model(&self, m: &mut Master, out: &mut [u8]) -> Outcome {

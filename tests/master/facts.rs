@@ -1,12 +1,12 @@
 //! The names of what an event met, from the model before and after it.
 
-use crate::event::Event;
-use crate::kept;
-use crate::messages::{self, Status};
-use crate::model::{Client, Master, Outcome, Report, State, LAST_TICK, SLOTS};
-use crate::playback::{Answered, Playback};
-use crate::recording::{Mark, Progress};
-use crate::verification;
+use super::event::Event;
+use super::kept;
+use super::messages::{self, Status};
+use super::model::{Client, Master, Outcome, Report, State, LAST_TICK, SLOTS};
+use super::playback::{Answered, Playback};
+use super::recording::{Mark, Progress};
+use super::verification;
 
 pub fn state(state: &State) -> &'static str {
     match state {
@@ -273,7 +273,7 @@ fn indicated(before: &Master, after: &Master, slot: usize, message: &[u8], names
         Some(recording) => recording,
         None => return,
     };
-    let known = |taken: &crate::recording::Taken| taken.step.slot == slot && taken.tan == message[3];
+    let known = |taken: &super::recording::Taken| taken.step.slot == slot && taken.tan == message[3];
     let failed = recording.steps.iter().any(|taken| taken.progress == Progress::Failed);
     let begins = message[2] / 64 <= Status::Started.bits() && !recording.steps.iter().any(known);
     if matches!(before.state, State::Record(_)) && recording.steps.len() == 64 && failed && begins {

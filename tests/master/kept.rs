@@ -1,7 +1,7 @@
 //! What the master keeps of an accepted pool: "Of an accepted pool the master keeps what its rules need". A plain
 //! reading of the bytes by tables A.1 to A.3; places are counted from 0.
 
-use crate::check;
+use super::check;
 
 /// A listed function: its ID, its preferred trigger, and the IDs of the states that it lists.
 #[derive(Clone, PartialEq, Debug)]

@@ -2,10 +2,10 @@
 //! It is plain on purpose. Sentences of 01 are quoted above the lines that follow them. What is recorded is in
 //! recording.rs, the checks before a start in verification.rs, what is played back in playback.rs.
 
-use crate::kept::{self, Kept};
-use crate::messages;
-use crate::playback::Playback;
-use crate::recording::{Recording, Sequence};
+use super::kept::{self, Kept};
+use super::messages;
+use super::playback::Playback;
+use super::recording::{Recording, Sequence};
 use std::rc::Rc;
 
 /// "Eight slots."

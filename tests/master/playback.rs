@@ -1,8 +1,8 @@
 //! The model's playback: what leaves at a tick, and what the answers do.
 
-use crate::messages::{self, Answer, Status};
-use crate::model::{self, Master, Outcome, State, LAST_TICK};
-use crate::recording::{Mark, Step};
+use super::messages::{self, Answer, Status};
+use super::model::{self, Master, Outcome, State, LAST_TICK};
+use super::recording::{Mark, Step};
 
 /// "if a sent step has no answer 16 ticks after it first left, abort"
 const PATIENCE: u32 = 16;

@@ -1,11 +1,11 @@
 //! Acts of a scenario in playback.
 
-use crate::event::Event;
-use crate::messages::{self, Answer, Indication, Status};
-use crate::model::{Report, State};
-use crate::playback::{Answered, Command, Playback};
-use crate::recording::{Mark, Step};
-use crate::scenario::Scenario;
+use super::event::Event;
+use super::messages::{self, Answer, Indication, Status};
+use super::model::{Report, State};
+use super::playback::{Answered, Command, Playback};
+use super::recording::{Mark, Step};
+use super::scenario::Scenario;
 
 impl Scenario<'_> {
     pub fn playing(&self) -> Option<&Playback> {

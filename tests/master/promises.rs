@@ -1,7 +1,7 @@
 //! Promises of document 01 that are checked at run time on what the library gives, without the model.
 
-use crate::event::Event;
-use crate::library::{Master, Outcome, Step};
+use super::event::Event;
+use super::library::{Master, Outcome, Step};
 
 const PLAYBACK: u8 = 4;
 const ABORT: u8 = 5;

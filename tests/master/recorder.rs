@@ -1,11 +1,11 @@
 //! Acts of a scenario in record and record complete.
 
-use crate::event::Event;
-use crate::kept::{Function, Kept};
-use crate::messages::{self, Indication, Status};
-use crate::model::{Report, State};
-use crate::recording::{Progress, Taken, MOST_STEPS};
-use crate::scenario::Scenario;
+use super::event::Event;
+use super::kept::{Function, Kept};
+use super::messages::{self, Indication, Status};
+use super::model::{Report, State};
+use super::recording::{Progress, Taken, MOST_STEPS};
+use super::scenario::Scenario;
 
 impl Scenario<'_> {
     pub fn record(&mut self) {

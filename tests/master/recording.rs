@@ -1,7 +1,7 @@
 //! The model's recording: what is taken down in record and record complete, and the sequence that stays of it.
 
-use crate::messages::{self, Indication, Status};
-use crate::model::{self, Client, Master, Outcome, Report, State, LAST_TICK};
+use super::messages::{self, Indication, Status};
+use super::model::{self, Client, Master, Outcome, Report, State, LAST_TICK};
 use std::collections::BTreeMap;
 
 /// "At most 64 steps".

@@ -1,10 +1,10 @@
 //! The model's state as the library's struct: every field, blank cells zero; and what the readers give of it.
 
-use crate::kept::Kept;
-use crate::library::{self, ClientView, SlotView, StepView};
-use crate::model::{Client, Master, Report, State, SLOTS};
-use crate::playback::{Answered, Command, Playback};
-use crate::recording::{Identity, Mark, Progress, Recording, Sequence, Step, Taken};
+use super::kept::Kept;
+use super::library::{self, ClientView, SlotView};
+use super::model::{Client, Master, Report, State, SLOTS};
+use super::playback::{Answered, Command, Playback};
+use super::recording::{Identity, Mark, Progress, Recording, Sequence, Step, Taken};
 use std::collections::BTreeMap;
 use std::rc::Rc;
 
@@ -180,39 +180,50 @@ fn playback(playback: &Playback) -> library::Playback {
     cells
 }
 
-/// What the readers must give; a slot above 7 and a step past the end give 3 and nothing else.
+/// What the readers must give: a number and a view; a slot above 7 and a step past the end give 3 and nothing else.
 pub mod view {
     use super::*;
+
+    const NO_SLOT: SlotView = SlotView { taken: 0, wanted: 0, report: 0, name: 0 };
 
     pub fn state(master: &Master) -> u8 {
         super::state(&master.state)
     }
 
-    pub fn slot(master: &Master, slot: usize) -> SlotView {
+    pub fn slot(master: &Master, slot: usize) -> (u8, SlotView) {
         match master.slots.get(slot) {
-            None => SlotView { number: 3, taken: 0, wanted: 0, report: 0, name: 0 },
-            Some(None) => SlotView { number: 0, taken: 0, wanted: 0, report: 0, name: 0 },
-            Some(Some(client)) => SlotView {
-                number: 0,
-                taken: 1,
-                wanted: u8::from(client.wanted),
-                report: report(client.report),
-                name: client.name,
-            },
+            None => (3, NO_SLOT),
+            Some(None) => (0, NO_SLOT),
+            Some(Some(client)) => {
+                let (wanted, report) = (u8::from(client.wanted), report(client.report));
+                (0, SlotView { taken: 1, wanted, report, name: client.name })
+            }
         }
     }
 
-    pub fn step(master: &Master, place: usize) -> StepView {
+    pub fn step(master: &Master, place: usize) -> (u8, library::Step) {
         match master.sequence.steps.get(place) {
-            None => StepView { number: 3, step: library::NO_STEP },
-            Some(it) => StepView { number: 0, step: super::step(it) },
+            None => (3, library::NO_STEP),
+            Some(it) => (0, super::step(it)),
         }
     }
 
-    pub fn client(master: &Master, slot: usize) -> ClientView {
+    pub fn client(master: &Master, slot: usize) -> (u8, ClientView) {
         match master.sequence.clients.get(&slot) {
-            Some(identity) => ClientView { number: 0, client: super::client(identity) },
-            None => ClientView { number: if slot < SLOTS { 0 } else { 3 }, client: library::NO_CLIENT },
+            Some(identity) => (0, flat(&super::client(identity))),
+            None => (if slot < SLOTS { 0 } else { 3 }, flat(&library::NO_CLIENT)),
+        }
+    }
+
+    fn flat(client: &library::Client) -> ClientView {
+        ClientView {
+            used: client.used,
+            name: client.name,
+            master_name: client.master,
+            version_length: client.version.length,
+            version: client.version.bytes,
+            configuration_length: client.configuration.length,
+            configuration: client.configuration.bytes,
         }
     }
 }

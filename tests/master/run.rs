@@ -1,12 +1,12 @@
 //! A run: every event is done on the library and on the model, and all that they give is compared.
 
-use crate::coverage::Coverage;
-use crate::event::Event;
-use crate::generate::Random;
-use crate::library;
-use crate::model::{Master, Outcome};
-use crate::promises::Promises;
-use crate::render::{view, Renderer};
+use super::coverage::Coverage;
+use super::event::Event;
+use super::generate::Random;
+use super::library;
+use super::model::{Master, Outcome};
+use super::promises::Promises;
+use super::render::{view, Renderer};
 use std::collections::VecDeque;
 
 /// The lent bytes stand at the head of so many, of which no other may change.
@@ -15,6 +15,8 @@ pub const BUFFER: usize = 640;
 const REMEMBERED: usize = 16;
 /// The readers are compared after one in so many events.
 const READERS: usize = 150;
+/// The call by value is compared with its wrapper at one in so many events.
+const BY_VALUE: usize = 8;
 
 /// What the library gives besides the new state.
 #[derive(Clone, Copy, PartialEq, Debug)]
@@ -91,6 +93,9 @@ impl Run {
             let place = (0..BUFFER).find(|&place| self.lent[place] != wanted_bytes[place]).unwrap();
             self.compare(&format!("lent byte {place}"), self.lent[place], wanted_bytes[place]);
         }
+        if self.random.once_in(BY_VALUE) {
+            self.compare_by_value(&event, &outcome, before.clone());
+        }
         let broken = self.promises.check(&event, &self.library, &outcome, &before, &self.lent);
         if let Some(promise) = broken {
             self.stop(&format!("promise broken: {promise}"));
@@ -122,6 +127,14 @@ impl Run {
     fn compare<T: PartialEq + std::fmt::Debug>(&self, what: &str, given: T, wanted: T) {
         if given != wanted {
             self.stop(&format!("{what}: the library gives {given:?}, the model {wanted:?}"));
+        }
+    }
+
+    /// The call by value gives what its wrapper gave, and 0 in what the wrapper does not hand on.
+    fn compare_by_value(&self, event: &Event, outcome: &library::Outcome, mut lent: Vec<u8>) {
+        let given = event.by_value(&self.library, &mut lent[..event.room()]);
+        if given != *outcome || lent != self.lent {
+            self.stop("the call by value gives something else than the wrapper");
         }
     }
 

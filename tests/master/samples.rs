@@ -1,7 +1,7 @@
 //! Clients to attach: a NAME and a pool each; the same clients changed in one thing; and pools that are refused.
 
-use crate::generate::{Pool, Random, Shape, FULL};
-use crate::recording::Step;
+use super::generate::{Pool, Random, Shape, FULL};
+use super::recording::Step;
 
 #[derive(Clone)]
 pub struct Sample {

@@ -3,12 +3,12 @@
 //!
 //! The acts of recording are in recorder.rs, those of playback in player.rs, what comes at any time in wild.rs.
 
-use crate::event::Event;
-use crate::generate::Random;
-use crate::model::{Client, Report, State, SLOTS};
-use crate::recording::Step;
-use crate::run::{Given, Run};
-use crate::samples::{self, Sample, CHANGES};
+use super::event::Event;
+use super::generate::Random;
+use super::model::{Client, Report, State, SLOTS};
+use super::recording::Step;
+use super::run::{Given, Run};
+use super::samples::{self, Sample, CHANGES};
 use std::rc::Rc;
 
 /// How the clients and the operator of one scenario behave: each number n means "one in n".

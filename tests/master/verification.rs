@@ -1,9 +1,9 @@
 //! The model's verification: what is checked before a playback starts. "Start, from ready: 7; then for each slot of the
 //! sequence, lowest first, 8, 9 and 10 before the next slot; then by step 11; then by slot 12."
 
-use crate::model::{self, Client, Master, Outcome, Refused, Report, State};
-use crate::playback::Playback;
-use crate::recording::{Identity, Step};
+use super::model::{self, Client, Master, Outcome, Refused, Report, State};
+use super::playback::Playback;
+use super::recording::{Identity, Step};
 
 impl Master {
     pub fn start(&mut self) -> Outcome {

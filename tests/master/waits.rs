@@ -1,13 +1,13 @@
 //! Scenarios that go on to tick 36,000 at a steady speed: in record, record complete and playback; and steps whose
 //! marks are far, at the highest speed.
 
-use crate::event::Event;
-use crate::generate::Random;
-use crate::messages::Status;
-use crate::model::{Report, State, LAST_TICK, SLOTS};
-use crate::playback::Answered;
-use crate::run::Run;
-use crate::scenario::Scenario;
+use super::event::Event;
+use super::generate::Random;
+use super::messages::Status;
+use super::model::{Report, State, LAST_TICK, SLOTS};
+use super::playback::Answered;
+use super::run::Run;
+use super::scenario::Scenario;
 
 #[derive(Clone, Copy, PartialEq, Debug)]
 pub enum Wait {

@@ -1,10 +1,10 @@
 //! Acts of a scenario at any time: any call, with anything.
 
-use crate::event::Event;
-use crate::messages::{self, Answer, Indication, Status};
-use crate::model::SLOTS;
-use crate::samples;
-use crate::scenario::Scenario;
+use super::event::Event;
+use super::messages::{self, Answer, Indication, Status};
+use super::model::SLOTS;
+use super::samples;
+use super::scenario::Scenario;
 use std::rc::Rc;
 
 impl Scenario<'_> {

@@ -66,6 +66,9 @@ const fn response(name: &'static str, kind: u8, code: u8, fields: &'static [Fiel
     Clause { name, kind, side: MASTER, code, length: Is(8), fields }
 }
 
+/// D.3 and D.5.
+const LABELLED: &[Field] = &[byte("code", 2, &[(0x00, 0x01), (0xFF, 0xFF)]), bits("label", 3, 1, 6, BITS6)];
+
 pub const CLAUSES: &[Clause] = &[
     Clause { name: "C.2", kind: 1, side: CLIENT, code: 0x90, length: Is(8), fields: &[byte("code", 2, &[(0x00, 0x02)])] },
     Clause {
@@ -88,9 +91,9 @@ pub const CLAUSES: &[Clause] = &[
     Clause { name: "C.4", kind: 3, side: CLIENT, code: 0x91, length: Is(8), fields: &[wide("memory", 2, 4, ANY32)] },
     response("C.5", 4, 0x91, &[byte("code", 2, &[(0x00, 0x01)])]),
     request("D.2", 5, 0x01),
-    Clause { name: "D.3", kind: 6, side: MASTER, code: 0x01, length: Label, fields: &[byte("code", 2, &[(0x00, 0x01), (0xFF, 0xFF)]), bits("label", 3, 1, 6, BITS6)] },
+    Clause { name: "D.3", kind: 6, side: MASTER, code: 0x01, length: Label, fields: LABELLED },
     request("D.4", 7, 0x02),
-    Clause { name: "D.5", kind: 8, side: MASTER, code: 0x02, length: Label, fields: &[byte("code", 2, &[(0x00, 0x01), (0xFF, 0xFF)]), bits("label", 3, 1, 6, BITS6)] },
+    Clause { name: "D.5", kind: 8, side: MASTER, code: 0x02, length: Label, fields: LABELLED },
     Clause { name: "D.6", kind: 9, side: CLIENT, code: 0x03, length: Pool, fields: &[] },
     response("D.7", 10, 0x03, &[byte("code", 2, &[(0x00, 0x01), (0xFF, 0xFF)])]),
     request("D.8", 11, 0x04),

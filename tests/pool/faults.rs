@@ -1,7 +1,7 @@
 //! Pools that are nearly legal: edits of a legal pool, each with the code of D.9 that it alone must give by document
 //! 01, and bytes by chance, of which only the model says what they give.
 
-use crate::generate::{label_allows, Base, Function, Pool, Random, State, FULL};
+use super::generate::{label_allows, Base, Function, Pool, Random, State, FULL};
 
 type Apply = fn(&mut Pool, &mut Random);
 

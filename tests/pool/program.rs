@@ -1,8 +1,8 @@
 //! Holds the program that reads a pool from standard input against the model: one pool a run.
 
-use crate::faults;
-use crate::generate::{Pool, Random, Shape, FULL};
-use crate::{cases, dump, fail, model, text};
+use super::faults;
+use super::generate::{Pool, Random, Shape, FULL};
+use super::{cases, dump, fail, model, text};
 use std::io::Write;
 use std::process::{Command, Stdio};
 

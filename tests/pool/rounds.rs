@@ -1,9 +1,9 @@
 //! The rounds of a run: which pools it tries.
 
-use crate::faults::{self, Edit};
-use crate::generate::{label_allows, Pool, Random, Shape, FULL};
-use crate::run::{contests_wanted, Run, CODES};
-use crate::{cases, text};
+use super::faults::{self, Edit};
+use super::generate::{label_allows, Pool, Random, Shape, FULL};
+use super::run::{contests_wanted, Run, CODES};
+use super::{cases, text};
 
 /// A legal pool that is to be edited has at most so many bytes, so that it can grow.
 const EDITABLE: usize = 12_000;

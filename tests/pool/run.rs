@@ -1,18 +1,8 @@
 //! A run: the library held against the model, pool by pool, and what was met.
 
-use crate::generate::FULL;
-use crate::{dump, fail, model, text};
+use super::generate::FULL;
+use super::{dump, fail, model, text};
 use std::collections::BTreeMap;
-
-#[repr(C)]
-struct Verdict {
-    code: u8,
-    object: u16,
-}
-
-extern "C" {
-    fn scm_pool_check(pool: *const u8, len: usize) -> Verdict;
-}
 
 /// The codes that may be given. "Code 08 is never given".
 pub const CODES: [u8; 13] = [0x00, 0x01, 0x02, 0x03, 0x04, 0x05, 0x06, 0x07, 0x09, 0x0A, 0x0B, 0x0C, 0xFF];
@@ -145,8 +135,6 @@ fn library(bytes: &[u8], length: usize, shift: usize) -> ((u8, u16), bool) {
     buffer.extend(bytes);
     buffer.extend([around; 32]);
     let before = buffer.clone();
-    let lent = buffer[start..].as_mut_ptr();
-    // SAFETY: `lent` points to `length` bytes of the buffer, which outlives the call.
-    let verdict = unsafe { scm_pool_check(lent, length) };
+    let verdict = crate::library::pool_check(&buffer[start..start + length]);
     ((verdict.code, verdict.object), buffer == before)
 }

@@ -1,30 +1,18 @@
-//! Holds the library's reading of objects and its rewriting of pools against the model, which is written from document
-//! 01 and tables A.1 to A.3 alone, on legal and on damaged pools.
-//!
-//!   main [COUNT [SEED]]       at least COUNT pools by chance, made from SEED; fails at the first difference
+//! The library's reading of objects and its rewriting of pools against a model that is written from document 01 and tables A.1 to A.3 alone, on legal
+//! and on damaged pools.
 
-#![deny(warnings)]
-
-#[allow(dead_code)]
-#[path = "../pool/faults.rs"]
-mod faults;
-#[allow(dead_code)]
-#[path = "../pool/generate.rs"]
-mod generate;
-mod library;
 mod model;
-#[path = "../pool/model.rs"]
-mod verdict;
 
-use generate::{Pool, Random, Shape, FULL};
+use crate::library;
+use crate::pool::generate::{Pool, Random, Shape, FULL};
+use crate::pool::{faults, model as verdict};
 
-const COUNT: u64 = 4_000;
+const COUNT: u64 = 1_000;
 const SEED: u64 = 11_783;
 
-fn main() {
-    let mut arguments = std::env::args().skip(1);
-    let count = arguments.next().map_or(COUNT, |text| number(&text));
-    let seed = arguments.next().map_or(SEED, |text| number(&text));
+/// At least COUNT pools by chance, made from SEED.
+pub fn run(arguments: &[&str]) {
+    let (count, seed) = crate::count_and_seed(arguments, COUNT, SEED);
     let mut run = Run { random: Random::new(seed), pools: 0, accepted: 0, objects: [0; 4] };
     run.every_cut();
     run.every_size();
@@ -33,13 +21,8 @@ fn main() {
     run.report();
 }
 
-fn number(text: &str) -> u64 {
-    text.parse().unwrap_or_else(|_| fail(&format!("not a number: {text}")))
-}
-
 fn fail(why: &str) -> ! {
-    eprintln!("objects: {why}");
-    std::process::exit(1)
+    crate::fail("objects", why)
 }
 
 struct Run {
@@ -162,7 +145,8 @@ impl Run {
             wanted_out[..pool.len()].copy_from_slice(pool);
             (0, 0, 0)
         };
-        let given = library::pool_rewrite(pool, &mut out, room);
+        let given = library::pool_rewrite(pool, &mut out[..room]);
+        let given = (given.number, given.code, given.object);
         if given != wanted {
             fail(&format!("{name}, pool {}, {room} bytes lent: the library gives {given:?}, the model {wanted:?}", self.pools));
         }

@@ -1,40 +1,12 @@
 //! What the library keeps of a pool beside a plain reading of the pool's bytes, written from tables A.1 to A.3 of
 //! ISO 11783-14 and document 01: "Of an accepted pool the master keeps what its rules need".
-#![deny(warnings)]
 
-#[allow(dead_code)]
-#[path = "../pool/generate.rs"]
-mod generate;
-#[path = "../pool/model.rs"]
-mod model;
+use crate::library::{self, Label, Profile, NO_LABEL, NO_PROFILE};
+use crate::pool::generate::{Pool, Random, Shape, FULL};
+use crate::pool::model;
 
-use generate::{Pool, Random, Shape, FULL};
-
-#[repr(C)]
-#[derive(Clone, Copy, PartialEq, Debug)]
-struct Label {
-    length: u8,
-    bytes: [u8; 63],
-}
-
-#[repr(C)]
-#[derive(Clone, Copy, PartialEq, Debug)]
-struct Profile {
-    master: u64,
-    mask: u64,
-    version: Label,
-    configuration: Label,
-    trigger: [u8; 256],
-    states: [u64; 256],
-}
-
-extern "C" {
-    fn scm_profile_of(pool: *const u8, len: usize) -> Profile;
-}
-
-const NO_LABEL: Label = Label { length: 0, bytes: [0; 63] };
-const NOTHING: Profile =
-    Profile { master: 0, mask: 0, version: NO_LABEL, configuration: NO_LABEL, trigger: [0; 256], states: [0; 256] };
+const COUNT: u64 = 1_500;
+const SEED: u64 = 14;
 
 fn u16_of(bytes: &[u8]) -> u16 {
     u16::from_le_bytes([bytes[0], bytes[1]])
@@ -75,13 +47,13 @@ fn listed(bytes: &[u8]) -> Vec<u16> {
 /// What is kept of a pool that is accepted; of any other, nothing.
 fn kept(pool: &[u8]) -> Profile {
     if model::check(pool).0 != 0 {
-        return NOTHING;
+        return NO_PROFILE;
     }
     let all = objects(pool);
     let of = |kind: u8, number: u16| *all.iter().find(|o| o[2] == kind && u16_of(o) == number).unwrap();
     let base = of(0, 0);
     let (n, m) = (usize::from(base[24]), usize::from(base[25]));
-    let mut profile = NOTHING;
+    let mut profile = NO_PROFILE;
     profile.master = u64_of(&base[4..]);
     profile.mask = u64_of(&base[12..]);
     profile.version = label_of(&base[27..27 + n]);
@@ -98,17 +70,17 @@ fn kept(pool: &[u8]) -> Profile {
 }
 
 fn compare(what: &str, pool: &[u8]) {
-    let given = unsafe { scm_profile_of(pool.as_ptr(), pool.len()) };
-    if given != kept(pool) {
-        println!("profile: {what} differs: {pool:02X?}");
-        std::process::exit(1);
+    if library::profile_of(pool) != kept(pool) {
+        crate::fail("profile", &format!("{what} differs: {pool:02X?}"));
     }
 }
 
-fn main() {
-    let mut random = Random::new(14);
+/// COUNT pools, made from SEED.
+pub fn run(arguments: &[&str]) {
+    let (count, seed) = crate::count_and_seed(arguments, COUNT, SEED);
+    let mut random = Random::new(seed);
     let (mut pools, mut accepted) = (0, 0);
-    while pools < 6_000 {
+    while pools < count {
         let shape = Shape {
             functions: 1 + random.below(40),
             states: random.below(70),
@@ -121,7 +93,7 @@ fn main() {
             let place = random.below(bytes.len());
             bytes[place] = random.number() as u8;
         }
-        accepted += usize::from(model::check(&bytes).0 == 0);
+        accepted += u64::from(model::check(&bytes).0 == 0);
         compare("pool", &bytes);
         pools += 1;
     }

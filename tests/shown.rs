@@ -1,17 +1,9 @@
 //! The shown value of the proved library against Rust's own doubles, bit for bit.
 //! The model below is written from 01, "The shown value", and shares nothing with the library.
 
-#[repr(C)]
-#[derive(Clone, Copy)]
-struct Shown {
-    number: u8,
-    value: f64,
-}
+use crate::library;
 
-extern "C" {
-    fn scm_shown_of(value: u32, offset: i32, scale: f32) -> Shown;
-    fn scm_shown_bits(value: u32, offset: i32, scale: u32) -> Shown;
-}
+const COUNT: u64 = 5_000_000;
 
 /// "(value + offset) · scale, the sum exact, the product in f64 rounded once. A scale not finite
 /// and above zero, as style 00 has it, gives 4 and value 0."
@@ -79,19 +71,19 @@ impl Count {
         self.cases += 1;
         self.refused += u64::from(number == 4);
         self.small += u64::from(number == 0 && small);
-        // SAFETY: both take numbers and give a pair of numbers.
-        let both = unsafe { [scm_shown_of(value, offset, scale), scm_shown_bits(value, offset, bits)] };
-        for (call, got) in ["of", "bits"].iter().zip(both) {
-            let same = got.number == number && got.value.to_bits() == want.to_bits();
-            if !same || (number == 0 && small && !exact(value, offset, scale, got.value)) {
+        let by_value = library::value::shown(value, offset, scale);
+        let all = [library::shown(value, offset, scale), library::shown_bits(value, offset, bits), (by_value.number, by_value.value)];
+        for (call, got) in ["scm_shown", "scm_shown_bits", "scm_shown_of"].iter().zip(all) {
+            let same = got.0 == number && got.1.to_bits() == want.to_bits();
+            if !same || (number == 0 && small && !exact(value, offset, scale, got.1)) {
                 self.differences += 1;
                 if self.differences > 20 {
                     continue;
                 }
                 println!(
-                    "shown_{call}: value {value}, offset {offset}, scale {bits:08X}: {} and {:016X}, not {number} and {:016X}",
-                    got.number,
-                    got.value.to_bits(),
+                    "{call}: value {value}, offset {offset}, scale {bits:08X}: {} and {:016X}, not {number} and {:016X}",
+                    got.0,
+                    got.1.to_bits(),
                     want.to_bits()
                 );
             }
@@ -115,7 +107,9 @@ const OFFSETS: [i32; 14] = [
     0, 1, -1, -40, -220, -240, 0x1fff_ffff, -0x1fff_ffff, -0x2000_0000, -0x2000_0001, i32::MAX, i32::MAX - 1, i32::MIN, i32::MIN + 1,
 ];
 
-fn main() {
+/// Each number with each other, then COUNT cases by chance.
+pub fn run(arguments: &[&str]) {
+    let (turns, seed) = crate::count_and_seed(arguments, COUNT, 0x9e37_79b9_7f4a_7c15);
     let mut count = Count::default();
     for value in VALUES {
         for offset in OFFSETS {
@@ -124,8 +118,8 @@ fn main() {
             }
         }
     }
-    let mut random = Random(0x9e37_79b9_7f4a_7c15);
-    for turn in 0..20_000_000u64 {
+    let mut random = Random(seed);
+    for turn in 0..turns {
         let (a, b, c) = (random.next(), random.next(), random.next());
         // any number of leading bits is taken off, so that small numbers are tried as often as large ones
         let value = (a as u32) >> (b & 31);
@@ -139,5 +133,7 @@ fn main() {
     }
     println!("shown: {} refused with 4, {} below 2^29 held as whole numbers", count.refused, count.small);
     println!("shown: {} cases, {} differences", count.cases, count.differences);
-    std::process::exit(i32::from(count.differences != 0));
+    if count.differences != 0 {
+        crate::fail("shown", "the library and the model differ");
+    }
 }

@@ -1,0 +1,65 @@
+//! The fuzzer's harness: any bytes are events on a master, a pool or a message; they are done on the library and on the models of the other
+//! tests, all that both give is compared, and the promises of document 01 are checked on what the library gives.
+//!
+//! An engine calls `LLVMFuzzerTestOneInput`: libFuzzer, or the driver of driver.rs where that is not to be had.
+
+#![deny(warnings)]
+
+#[allow(dead_code)]
+#[path = "../pool/model.rs"]
+mod check;
+mod counters;
+#[allow(dead_code)]
+#[path = "../master/coverage.rs"]
+mod coverage;
+mod decode;
+mod entry;
+#[allow(dead_code)]
+#[path = "../master/event.rs"]
+mod event;
+#[allow(dead_code)]
+#[path = "../master/facts.rs"]
+mod facts;
+#[allow(dead_code)]
+#[path = "../pool/generate.rs"]
+mod generate;
+#[allow(dead_code)]
+#[path = "../master/kept.rs"]
+mod kept;
+#[allow(dead_code)]
+#[path = "../master/library.rs"]
+mod library;
+mod message;
+mod message_model;
+#[allow(dead_code)]
+#[path = "../master/messages.rs"]
+mod messages;
+#[allow(dead_code)]
+#[path = "../master/model.rs"]
+mod model;
+mod pair;
+#[allow(dead_code)]
+#[path = "../master/playback.rs"]
+mod playback;
+mod pools;
+#[allow(dead_code)]
+#[path = "../master/promises.rs"]
+mod promises;
+#[allow(dead_code)]
+#[path = "../master/recording.rs"]
+mod recording;
+#[allow(dead_code)]
+#[path = "../master/render.rs"]
+mod render;
+#[allow(dead_code)]
+#[path = "../master/samples.rs"]
+mod samples;
+mod seeds;
+mod taken;
+#[allow(dead_code)]
+#[path = "../master/verification.rs"]
+mod verification;
+
+pub use counters::counters;
+pub use entry::{events, met, one_input, replay, LLVMFuzzerTestOneInput};
+pub use seeds::seeds;

@@ -1,0 +1,114 @@
+/* The header for a program that is not in C: each call of scm.h as an external function, and the table of its layout. Nothing else is done here.
+   through_X is the wrapper scm_X, or the call scm_X where it has no wrapper; value_X is the call by value that a wrapper stands over. */
+#include "scm.h"
+
+/* ---- The layout: what scm.h asserts of the structs that cross, and the views that its wrappers fill. A row without a field is the size. */
+typedef struct layout_row {
+    const char *type;
+    const char *field;
+    size_t bytes;
+} layout_row;
+
+#define SIZE_ROW(type, bytes) { #type, "", bytes },
+#define FIELD_ROW(type, field, at) { #type, #field, at },
+#define VIEW_SIZE(type) SIZE_ROW(type, sizeof(type))
+#define VIEW(type, field) FIELD_ROW(type, field, offsetof(type, field))
+
+const layout_row through_layout[] = {
+    SCM_LAYOUT(SIZE_ROW, FIELD_ROW)
+    VIEW_SIZE(scm_slot_view) VIEW(scm_slot_view, taken) VIEW(scm_slot_view, wanted) VIEW(scm_slot_view, report) VIEW(scm_slot_view, name)
+    VIEW_SIZE(scm_client_view) VIEW(scm_client_view, used) VIEW(scm_client_view, name) VIEW(scm_client_view, master_name)
+    VIEW(scm_client_view, version_length) VIEW(scm_client_view, version) VIEW(scm_client_view, configuration_length)
+    VIEW(scm_client_view, configuration)
+};
+const size_t through_layout_rows = sizeof through_layout / sizeof through_layout[0];
+
+/* ---- Declared here as well, for external functions have a declaration before them. */
+#define THROUGH(result, name, parameters, call) result name parameters; result name parameters { call; }
+
+/* ---- Texts */
+THROUGH(const char *, through_number_text, (uint8_t number), return scm_number_text(number))
+THROUGH(const char *, through_pool_code_text, (uint8_t code), return scm_pool_code_text(code))
+
+/* ---- The pool */
+THROUGH(void, through_pool_check, (const uint8_t *pool, size_t len, scm_verdict *r), *r = scm_pool_check(pool, len))
+THROUGH(void, through_profile_of, (const uint8_t *pool, size_t len, scm_profile *r), *r = scm_profile_of(pool, len))
+THROUGH(void, through_object_at, (const uint8_t *pool, size_t len, size_t place, scm_object *r), *r = scm_object_at(pool, len, place))
+THROUGH(void, through_pool_rewrite, (const uint8_t *pool, size_t len, uint8_t *out, size_t out_len, scm_rewritten *r),
+        *r = scm_pool_rewrite(pool, len, out, out_len))
+
+/* ---- Messages */
+THROUGH(uint8_t, through_message_read, (uint32_t side, const uint8_t *bytes, size_t len, scm_message *message),
+        return scm_message_read(side, bytes, len, message))
+THROUGH(uint8_t, through_message_write, (const scm_message *message, uint8_t *out, size_t out_len, size_t *length),
+        return scm_message_write(message, out, out_len, length))
+THROUGH(uint8_t, through_transfer_write, (const uint8_t *pool, size_t len, uint8_t *out, size_t out_len, size_t *length),
+        return scm_transfer_write(pool, len, out, out_len, length))
+THROUGH(void, value_read, (uint32_t side, const uint8_t *bytes, size_t len, scm_message_reading *r), *r = scm_read(side, bytes, len))
+THROUGH(void, value_write, (const scm_message *message, uint8_t *out, size_t out_len, scm_written *r), *r = scm_write(*message, out, out_len))
+THROUGH(void, value_write_transfer, (const uint8_t *pool, size_t len, uint8_t *out, size_t out_len, scm_written *r),
+        *r = scm_write_transfer(pool, len, out, out_len))
+
+/* ---- The shown value */
+THROUGH(uint8_t, through_shown, (uint32_t value, int32_t offset, float scale, double *shown), return scm_shown(value, offset, scale, shown))
+THROUGH(void, through_shown_bits, (uint32_t value, int32_t offset, uint32_t scale, scm_shown_value *r), *r = scm_shown_bits(value, offset, scale))
+THROUGH(void, value_shown_of, (uint32_t value, int32_t offset, float scale, scm_shown_value *r), *r = scm_shown_of(value, offset, scale))
+
+/* ---- The master, as a host calls it */
+THROUGH(void, through_init, (scm_master *m), scm_init(m))
+THROUGH(uint8_t, through_on, (scm_master *m), return scm_on(m))
+THROUGH(uint8_t, through_off, (scm_master *m), return scm_off(m))
+THROUGH(uint8_t, through_attach,
+        (scm_master *m, size_t slot, uint64_t name, const uint8_t *pool, size_t len, uint8_t *code, uint16_t *object),
+        return scm_attach(m, slot, name, pool, len, code, object))
+THROUGH(uint8_t, through_enable, (scm_master *m, size_t slot, uint8_t *out, size_t out_len), return scm_enable(m, slot, out, out_len))
+THROUGH(uint8_t, through_disable, (scm_master *m, size_t slot, uint8_t *out, size_t out_len), return scm_disable(m, slot, out, out_len))
+THROUGH(uint8_t, through_report, (scm_master *m, size_t slot, uint32_t report), return scm_report(m, slot, report))
+THROUGH(uint8_t, through_lost, (scm_master *m, size_t slot), return scm_lost(m, slot))
+THROUGH(uint8_t, through_record, (scm_master *m), return scm_record(m))
+THROUGH(uint8_t, through_stop, (scm_master *m), return scm_stop(m))
+THROUGH(uint8_t, through_cancel, (scm_master *m), return scm_cancel(m))
+THROUGH(uint8_t, through_indication, (scm_master *m, size_t slot, const uint8_t *msg, size_t len, uint8_t *out, size_t out_len),
+        return scm_indication(m, slot, msg, len, out, out_len))
+THROUGH(uint8_t, through_client_abort, (scm_master *m, size_t slot, const uint8_t *msg, size_t len), return scm_client_abort(m, slot, msg, len))
+THROUGH(uint8_t, through_start, (scm_master *m), return scm_start(m))
+THROUGH(uint8_t, through_abort, (scm_master *m), return scm_abort(m))
+THROUGH(uint8_t, through_tick, (scm_master *m, uint32_t mm, uint8_t *frames, size_t frames_len, uint32_t *count),
+        return scm_tick(m, mm, frames, frames_len, count))
+THROUGH(uint8_t, through_answer, (scm_master *m, size_t slot, const uint8_t *msg, size_t len, uint8_t *out, size_t out_len),
+        return scm_answer(m, slot, msg, len, out, out_len))
+THROUGH(uint8_t, through_state, (const scm_master *m), return scm_state(m))
+THROUGH(uint8_t, through_slot, (const scm_master *m, size_t slot, scm_slot_view *view), return scm_slot(m, slot, view))
+THROUGH(size_t, through_step_count, (const scm_master *m), return scm_step_count(m))
+THROUGH(uint8_t, through_step, (const scm_master *m, size_t i, scm_step_view *view), return scm_step(m, i, view))
+THROUGH(uint8_t, through_client, (const scm_master *m, size_t slot, scm_client_view *view), return scm_client(m, slot, view))
+
+/* ---- The master by value */
+THROUGH(void, value_on, (const scm_master *m, scm_outcome *o), *o = scm_master_on(*m))
+THROUGH(void, value_off, (const scm_master *m, scm_outcome *o), *o = scm_master_off(*m))
+THROUGH(void, value_attach, (const scm_master *m, size_t slot, uint64_t name, const uint8_t *pool, size_t len, scm_outcome *o),
+        *o = scm_master_attach(*m, slot, name, pool, len))
+THROUGH(void, value_enable, (const scm_master *m, size_t slot, uint8_t *out, size_t out_len, scm_outcome *o),
+        *o = scm_master_enable(*m, slot, out, out_len))
+THROUGH(void, value_disable, (const scm_master *m, size_t slot, uint8_t *out, size_t out_len, scm_outcome *o),
+        *o = scm_master_disable(*m, slot, out, out_len))
+THROUGH(void, value_report, (const scm_master *m, size_t slot, uint32_t report, scm_outcome *o), *o = scm_master_report(*m, slot, report))
+THROUGH(void, value_lost, (const scm_master *m, size_t slot, scm_outcome *o), *o = scm_master_lost(*m, slot))
+THROUGH(void, value_record, (const scm_master *m, scm_outcome *o), *o = scm_master_record(*m))
+THROUGH(void, value_stop, (const scm_master *m, scm_outcome *o), *o = scm_master_stop(*m))
+THROUGH(void, value_cancel, (const scm_master *m, scm_outcome *o), *o = scm_master_cancel(*m))
+THROUGH(void, value_indication,
+        (const scm_master *m, size_t slot, const uint8_t *msg, size_t len, uint8_t *out, size_t out_len, scm_outcome *o),
+        *o = scm_master_indication(*m, slot, msg, len, out, out_len))
+THROUGH(void, value_client_abort, (const scm_master *m, size_t slot, const uint8_t *msg, size_t len, scm_outcome *o),
+        *o = scm_master_client_abort(*m, slot, msg, len))
+THROUGH(void, value_start, (const scm_master *m, scm_outcome *o), *o = scm_master_start(*m))
+THROUGH(void, value_abort, (const scm_master *m, scm_outcome *o), *o = scm_master_abort(*m))
+THROUGH(void, value_tick, (const scm_master *m, uint32_t mm, uint8_t *frames, size_t frames_len, scm_outcome *o),
+        *o = scm_master_tick(*m, mm, frames, frames_len))
+THROUGH(void, value_answer,
+        (const scm_master *m, size_t slot, const uint8_t *msg, size_t len, uint8_t *out, size_t out_len, scm_outcome *o),
+        *o = scm_master_answer(*m, slot, msg, len, out, out_len))
+THROUGH(void, value_slot, (const scm_master *m, size_t slot, scm_slot_result *r), *r = scm_master_slot(*m, slot))
+THROUGH(void, value_step, (const scm_master *m, size_t i, scm_step_result *r), *r = scm_master_step(*m, i))
+THROUGH(void, value_client, (const scm_master *m, size_t slot, scm_client_result *r), *r = scm_master_client(*m, slot))

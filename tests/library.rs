@@ -1,0 +1,721 @@
+//! The library as include/scm.h has it: its structs, and thin safe functions over the functions of tests/header.c, which hand the header on.
+//!
+//! A wrapper writes what it gives to the memory that is handed over, in any case: so that memory holds POISON before each call.
+
+use std::ffi::CStr;
+use std::mem::{size_of, MaybeUninit};
+use std::os::raw::c_char;
+use std::ptr::addr_of;
+
+pub const POISON: u8 = 0xA5;
+
+/// A row of the layout: a struct's size, or where a field of it stands, of how many bytes it is and of which type here.
+#[derive(Clone)]
+pub struct Row {
+    pub structure: &'static str,
+    pub field: &'static str,
+    pub at: usize,
+    pub bytes: usize,
+    pub kind: &'static str,
+}
+
+fn bytes_at<T>(_: *const T) -> usize {
+    size_of::<T>()
+}
+
+/// The structs, each with its name in the header, and their layout as it is here.
+macro_rules! structs {
+    ($($(#[$note:meta])* $structure:literal $name:ident { $($field:ident: $type:ty,)* })*) => {
+        $(
+            $(#[$note])*
+            #[repr(C)]
+            #[derive(Clone, Copy, Debug, PartialEq)]
+            pub struct $name {
+                $(pub $field: $type,)*
+            }
+        )*
+
+        pub fn layout() -> Vec<Row> {
+            let mut rows = Vec::new();
+            $(
+                let bytes = size_of::<$name>();
+                rows.push(Row { structure: $structure, field: "", at: bytes, bytes, kind: stringify!($name) });
+                let cell = MaybeUninit::<$name>::uninit();
+                let start = cell.as_ptr();
+                $(
+                    // SAFETY: the address of a field is taken; nothing is read.
+                    let field = unsafe { addr_of!((*start).$field) };
+                    let at = field as usize - start as usize;
+                    let (field, bytes) = (stringify!($field), bytes_at(field));
+                    rows.push(Row { structure: $structure, field, at, bytes, kind: stringify!($type) });
+                )*
+            )*
+            rows
+        }
+    };
+}
+
+structs! {
+    "scm_verdict" Verdict {
+        code: u8,
+        object: u16,
+    }
+
+    /// An object, numbers only: kind 0 a base, 1 a function, 2 a state, 255 none that can be read at the place.
+    "scm_object" Object {
+        kind: u8,
+        place: usize,
+        next: usize,
+        number: u16,
+        standard: u8,
+        master: u64,
+        mask: u64,
+        name: u16,
+        picture: u16,
+        function: u8,
+        trigger: u8,
+        attribute: u8,
+        minimum: u32,
+        maximum: u32,
+        offset: u32,
+        scale: u32,
+        decimals: u8,
+        unit: u16,
+        state: u8,
+        n: u8,
+        m: u8,
+        count: u8,
+        version: [u8; 63],
+        configuration: [u8; 63],
+        list: [u16; 255],
+    }
+
+    "scm_rewritten" Rewritten {
+        number: u8,
+        code: u8,
+        object: u16,
+    }
+
+    "scm_label" Label {
+        length: u8,
+        bytes: [u8; 63],
+    }
+
+    "scm_profile" Profile {
+        master: u64,
+        mask: u64,
+        version: Label,
+        configuration: Label,
+        trigger: [u8; 256],
+        states: [u64; 256],
+    }
+
+    "scm_capability" Capability {
+        version: u8,
+        width: u8,
+        height: u8,
+        characters: u16,
+        colour: u8,
+        size: u8,
+        font: u8,
+        style: u8,
+    }
+
+    "scm_message_step" MessageStep {
+        function: u8,
+        state: u8,
+        status: u8,
+        error: u8,
+        tan: u8,
+        value: u32,
+    }
+
+    "scm_message" Message {
+        kind: u8,
+        code: u8,
+        reason: u8,
+        object: u16,
+        memory: u32,
+        capability: Capability,
+        step: MessageStep,
+        label: Label,
+    }
+
+    "scm_message_reading" MessageReading {
+        number: u8,
+        message: Message,
+    }
+
+    "scm_written" Written {
+        number: u8,
+        length: usize,
+    }
+
+    "scm_shown_value" Shown {
+        number: u8,
+        value: f64,
+    }
+
+    "scm_slot_state" Slot {
+        taken: u8,
+        wanted: u8,
+        report: u8,
+        name: u64,
+        profile: Profile,
+    }
+
+    "scm_client_record" Client {
+        used: u8,
+        name: u64,
+        master: u64,
+        version: Label,
+        configuration: Label,
+    }
+
+    "scm_sequence_step" Step {
+        slot: u8,
+        function: u8,
+        state: u8,
+        distance: u8,
+        value: u32,
+        mark: u32,
+    }
+
+    "scm_taken_step" Taken {
+        step: Step,
+        tan: u8,
+        status: u8,
+    }
+
+    "scm_sent_step" Sent {
+        tan: u8,
+        answer: u8,
+        left: u32,
+    }
+
+    "scm_sequence" Sequence {
+        count: usize,
+        steps: [Step; 64],
+        clients: [Client; 8],
+    }
+
+    "scm_recording" Recording {
+        ticks: u32,
+        distance: u32,
+        count: usize,
+        steps: [Taken; 64],
+        clients: [Client; 8],
+    }
+
+    "scm_playback" Playback {
+        ticks: u32,
+        distance: u32,
+        sent: usize,
+        commands: [Sent; 64],
+    }
+
+    "scm_master" Master {
+        state: u8,
+        tan: u8,
+        slots: [Slot; 8],
+        sequence: Sequence,
+        recording: Recording,
+        playback: Playback,
+    }
+
+    /// What an event gives: code and object come from an attachment, count from a tick; with any other wrapper they are 0 here.
+    "scm_outcome" Outcome {
+        number: u8,
+        code: u8,
+        object: u16,
+        count: u32,
+        master: Master,
+    }
+
+    "scm_slot_result" SlotResult {
+        number: u8,
+        taken: u8,
+        wanted: u8,
+        report: u8,
+        name: u64,
+    }
+
+    "scm_step_result" StepResult {
+        number: u8,
+        step: Step,
+    }
+
+    "scm_client_result" ClientResult {
+        number: u8,
+        client: Client,
+    }
+
+    "scm_slot_view" SlotView {
+        taken: u8,
+        wanted: u8,
+        report: u8,
+        name: u64,
+    }
+
+    "scm_client_view" ClientView {
+        used: u8,
+        name: u64,
+        master_name: u64,
+        version_length: u8,
+        version: [u8; 63],
+        configuration_length: u8,
+        configuration: [u8; 63],
+    }
+}
+
+pub const NO_LABEL: Label = Label { length: 0, bytes: [0; 63] };
+pub const NO_PROFILE: Profile =
+    Profile { master: 0, mask: 0, version: NO_LABEL, configuration: NO_LABEL, trigger: [0; 256], states: [0; 256] };
+pub const NO_MESSAGE: Message = Message {
+    kind: 0,
+    code: 0,
+    reason: 0,
+    object: 0,
+    memory: 0,
+    capability: Capability { version: 0, width: 0, height: 0, characters: 0, colour: 0, size: 0, font: 0, style: 0 },
+    step: MessageStep { function: 0, state: 0, status: 0, error: 0, tan: 0, value: 0 },
+    label: NO_LABEL,
+};
+pub const NO_SLOT: Slot = Slot { taken: 0, wanted: 0, report: 0, name: 0, profile: NO_PROFILE };
+pub const NO_CLIENT: Client = Client { used: 0, name: 0, master: 0, version: NO_LABEL, configuration: NO_LABEL };
+pub const NO_STEP: Step = Step { slot: 0, function: 0, state: 0, distance: 0, value: 0, mark: 0 };
+pub const NO_TAKEN: Taken = Taken { step: NO_STEP, tan: 0, status: 0 };
+pub const NO_SENT: Sent = Sent { tan: 0, answer: 0, left: 0 };
+pub const NO_SEQUENCE: Sequence = Sequence { count: 0, steps: [NO_STEP; 64], clients: [NO_CLIENT; 8] };
+pub const NO_RECORDING: Recording =
+    Recording { ticks: 0, distance: 0, count: 0, steps: [NO_TAKEN; 64], clients: [NO_CLIENT; 8] };
+pub const NO_PLAYBACK: Playback = Playback { ticks: 0, distance: 0, sent: 0, commands: [NO_SENT; 64] };
+pub const NO_MASTER: Master = Master {
+    state: 0,
+    tan: 0,
+    slots: [NO_SLOT; 8],
+    sequence: NO_SEQUENCE,
+    recording: NO_RECORDING,
+    playback: NO_PLAYBACK,
+};
+
+/// Structs of numbers alone, for which all bytes are a value.
+pub trait Plain: Copy {
+    fn poisoned() -> Self {
+        Self::made(|| POISON)
+    }
+
+    /// All bytes, one after the other, those between fields too.
+    fn made(mut next: impl FnMut() -> u8) -> Self {
+        let mut cell = MaybeUninit::<Self>::uninit();
+        let start = cell.as_mut_ptr() as *mut u8;
+        for at in 0..size_of::<Self>() {
+            // SAFETY: the byte is one of the cell's.
+            unsafe { start.add(at).write(next()) }
+        }
+        // SAFETY: all bytes of the cell are written, and any bytes are a value of the type.
+        unsafe { cell.assume_init() }
+    }
+
+    /// The bytes of a field, which stand there and are so many.
+    fn field(&self, at: usize, bytes: usize) -> &[u8] {
+        assert!(at + bytes <= size_of::<Self>());
+        // SAFETY: they are within the struct, and a field's bytes are written ones.
+        unsafe { std::slice::from_raw_parts((self as *const Self as *const u8).add(at), bytes) }
+    }
+}
+
+macro_rules! plain {
+    ($($name:ty)*) => { $(impl Plain for $name {})* };
+}
+
+plain! { u8 u16 u32 usize f64 Verdict Object Rewritten Profile Message MessageReading Written Shown Master Outcome Step }
+plain! { SlotResult StepResult ClientResult SlotView ClientView }
+
+/// What a call writes to memory that is handed over: the memory holds POISON before.
+fn into<T: Plain>(call: impl FnOnce(&mut T)) -> T {
+    let mut cell = T::poisoned();
+    call(&mut cell);
+    cell
+}
+
+/// The same, with the number that the call gives.
+fn numbered<T: Plain>(call: impl FnOnce(&mut T) -> u8) -> (u8, T) {
+    let mut cell = T::poisoned();
+    let number = call(&mut cell);
+    (number, cell)
+}
+
+// SAFETY, of every call in this file: the structs are those of the header, as the part `layout` shows, and each pointer and length are those
+// of one slice, lent for the call.
+
+/// What C has as text.
+fn text(from: *const c_char) -> String {
+    unsafe { CStr::from_ptr(from) }.to_string_lossy().into_owned()
+}
+
+/// The table of the header: struct, field (none for the size), and the number.
+pub fn header_layout() -> Vec<(String, String, usize)> {
+    #[repr(C)]
+    struct HeaderRow {
+        structure: *const c_char,
+        field: *const c_char,
+        bytes: usize,
+    }
+    extern "C" {
+        static through_layout: [HeaderRow; 0];
+        static through_layout_rows: usize;
+    }
+    let rows = unsafe { std::slice::from_raw_parts(addr_of!(through_layout) as *const HeaderRow, through_layout_rows) };
+    rows.iter().map(|row| (text(row.structure), text(row.field), row.bytes)).collect()
+}
+
+// ---- Texts
+
+extern "C" {
+    fn through_number_text(number: u8) -> *const c_char;
+    fn through_pool_code_text(code: u8) -> *const c_char;
+}
+
+pub fn number_text(number: u8) -> String {
+    text(unsafe { through_number_text(number) })
+}
+
+pub fn pool_code_text(code: u8) -> String {
+    text(unsafe { through_pool_code_text(code) })
+}
+
+// ---- The pool
+
+extern "C" {
+    fn through_pool_check(pool: *const u8, len: usize, verdict: *mut Verdict);
+    fn through_profile_of(pool: *const u8, len: usize, profile: *mut Profile);
+    fn through_object_at(pool: *const u8, len: usize, place: usize, object: *mut Object);
+    fn through_pool_rewrite(pool: *const u8, len: usize, out: *mut u8, out_len: usize, answer: *mut Rewritten);
+}
+
+pub fn pool_check(pool: &[u8]) -> Verdict {
+    into(|verdict| unsafe { through_pool_check(pool.as_ptr(), pool.len(), verdict) })
+}
+
+pub fn profile_of(pool: &[u8]) -> Profile {
+    into(|profile| unsafe { through_profile_of(pool.as_ptr(), pool.len(), profile) })
+}
+
+pub fn object_at(pool: &[u8], place: usize) -> Object {
+    into(|object| unsafe { through_object_at(pool.as_ptr(), pool.len(), place, object) })
+}
+
+pub fn pool_rewrite(pool: &[u8], out: &mut [u8]) -> Rewritten {
+    into(|answer| unsafe { through_pool_rewrite(pool.as_ptr(), pool.len(), out.as_mut_ptr(), out.len(), answer) })
+}
+
+// ---- Messages
+
+extern "C" {
+    fn through_message_read(side: u32, bytes: *const u8, len: usize, message: *mut Message) -> u8;
+    fn through_message_write(message: *const Message, out: *mut u8, out_len: usize, length: *mut usize) -> u8;
+    fn through_transfer_write(pool: *const u8, len: usize, out: *mut u8, out_len: usize, length: *mut usize) -> u8;
+}
+
+/// The number, and the message.
+pub fn message_read(side: u32, bytes: &[u8]) -> (u8, Message) {
+    numbered(|message| unsafe { through_message_read(side, bytes.as_ptr(), bytes.len(), message) })
+}
+
+/// The number, and the length.
+pub fn message_write(message: &Message, out: &mut [u8]) -> (u8, usize) {
+    numbered(|length| unsafe { through_message_write(message, out.as_mut_ptr(), out.len(), length) })
+}
+
+/// The number, and the length.
+pub fn transfer_write(pool: &[u8], out: &mut [u8]) -> (u8, usize) {
+    let (from, to) = (pool.as_ptr(), out.as_mut_ptr());
+    numbered(|length| unsafe { through_transfer_write(from, pool.len(), to, out.len(), length) })
+}
+
+// ---- The shown value
+
+extern "C" {
+    fn through_shown(value: u32, offset: i32, scale: f32, shown: *mut f64) -> u8;
+    fn through_shown_bits(value: u32, offset: i32, scale: u32, shown: *mut Shown);
+}
+
+pub fn shown(value: u32, offset: i32, scale: f32) -> (u8, f64) {
+    numbered(|shown| unsafe { through_shown(value, offset, scale, shown) })
+}
+
+pub fn shown_bits(value: u32, offset: i32, scale: u32) -> (u8, f64) {
+    let shown: Shown = into(|shown| unsafe { through_shown_bits(value, offset, scale, shown) });
+    (shown.number, shown.value)
+}
+
+// ---- The master, by the wrappers. Each event takes the old state and gives what the wrapper leaves of a copy of it.
+// They are not inlined, lest their copies of the state pile up in one caller's frame.
+
+extern "C" {
+    fn through_init(m: *mut Master);
+    fn through_on(m: *mut Master) -> u8;
+    fn through_off(m: *mut Master) -> u8;
+    fn through_attach(m: *mut Master, slot: usize, name: u64, pool: *const u8, len: usize, code: *mut u8, object: *mut u16) -> u8;
+    fn through_enable(m: *mut Master, slot: usize, out: *mut u8, out_len: usize) -> u8;
+    fn through_disable(m: *mut Master, slot: usize, out: *mut u8, out_len: usize) -> u8;
+    fn through_report(m: *mut Master, slot: usize, report: u32) -> u8;
+    fn through_lost(m: *mut Master, slot: usize) -> u8;
+    fn through_record(m: *mut Master) -> u8;
+    fn through_stop(m: *mut Master) -> u8;
+    fn through_cancel(m: *mut Master) -> u8;
+    fn through_indication(m: *mut Master, slot: usize, msg: *const u8, len: usize, out: *mut u8, out_len: usize) -> u8;
+    fn through_client_abort(m: *mut Master, slot: usize, msg: *const u8, len: usize) -> u8;
+    fn through_start(m: *mut Master) -> u8;
+    fn through_abort(m: *mut Master) -> u8;
+    fn through_tick(m: *mut Master, mm: u32, frames: *mut u8, frames_len: usize, count: *mut u32) -> u8;
+    fn through_answer(m: *mut Master, slot: usize, msg: *const u8, len: usize, out: *mut u8, out_len: usize) -> u8;
+    fn through_state(m: *const Master) -> u8;
+    fn through_slot(m: *const Master, slot: usize, view: *mut SlotView) -> u8;
+    fn through_step_count(m: *const Master) -> usize;
+    fn through_step(m: *const Master, i: usize, view: *mut Step) -> u8;
+    fn through_client(m: *const Master, slot: usize, view: *mut ClientView) -> u8;
+}
+
+/// A wrapper that gives a number and nothing else.
+fn event(m: &Master, call: impl FnOnce(&mut Master) -> u8) -> Outcome {
+    let mut outcome = Outcome { number: 0, code: 0, object: 0, count: 0, master: *m };
+    outcome.number = call(&mut outcome.master);
+    outcome
+}
+
+#[inline(never)]
+pub fn new() -> Master {
+    into(|m| unsafe { through_init(m) })
+}
+
+#[inline(never)]
+pub fn on(m: &Master) -> Outcome {
+    event(m, |m| unsafe { through_on(m) })
+}
+
+#[inline(never)]
+pub fn off(m: &Master) -> Outcome {
+    event(m, |m| unsafe { through_off(m) })
+}
+
+#[inline(never)]
+pub fn attach(m: &Master, slot: usize, name: u64, pool: &[u8]) -> Outcome {
+    let (mut code, mut object) = (u8::poisoned(), u16::poisoned());
+    let mut outcome = event(m, |m| unsafe { through_attach(m, slot, name, pool.as_ptr(), pool.len(), &mut code, &mut object) });
+    outcome.code = code;
+    outcome.object = object;
+    outcome
+}
+
+#[inline(never)]
+pub fn enable(m: &Master, slot: usize, out: &mut [u8]) -> Outcome {
+    event(m, |m| unsafe { through_enable(m, slot, out.as_mut_ptr(), out.len()) })
+}
+
+#[inline(never)]
+pub fn disable(m: &Master, slot: usize, out: &mut [u8]) -> Outcome {
+    event(m, |m| unsafe { through_disable(m, slot, out.as_mut_ptr(), out.len()) })
+}
+
+#[inline(never)]
+pub fn report(m: &Master, slot: usize, report: u32) -> Outcome {
+    event(m, |m| unsafe { through_report(m, slot, report) })
+}
+
+#[inline(never)]
+pub fn lost(m: &Master, slot: usize) -> Outcome {
+    event(m, |m| unsafe { through_lost(m, slot) })
+}
+
+#[inline(never)]
+pub fn record(m: &Master) -> Outcome {
+    event(m, |m| unsafe { through_record(m) })
+}
+
+#[inline(never)]
+pub fn stop(m: &Master) -> Outcome {
+    event(m, |m| unsafe { through_stop(m) })
+}
+
+#[inline(never)]
+pub fn cancel(m: &Master) -> Outcome {
+    event(m, |m| unsafe { through_cancel(m) })
+}
+
+#[inline(never)]
+pub fn indication(m: &Master, slot: usize, message: &[u8], out: &mut [u8]) -> Outcome {
+    event(m, |m| unsafe { through_indication(m, slot, message.as_ptr(), message.len(), out.as_mut_ptr(), out.len()) })
+}
+
+#[inline(never)]
+pub fn client_abort(m: &Master, slot: usize, message: &[u8]) -> Outcome {
+    event(m, |m| unsafe { through_client_abort(m, slot, message.as_ptr(), message.len()) })
+}
+
+#[inline(never)]
+pub fn start(m: &Master) -> Outcome {
+    event(m, |m| unsafe { through_start(m) })
+}
+
+#[inline(never)]
+pub fn abort(m: &Master) -> Outcome {
+    event(m, |m| unsafe { through_abort(m) })
+}
+
+#[inline(never)]
+pub fn tick(m: &Master, mm: u32, frames: &mut [u8]) -> Outcome {
+    let mut count = u32::poisoned();
+    let mut outcome = event(m, |m| unsafe { through_tick(m, mm, frames.as_mut_ptr(), frames.len(), &mut count) });
+    outcome.count = count;
+    outcome
+}
+
+#[inline(never)]
+pub fn answer(m: &Master, slot: usize, message: &[u8], out: &mut [u8]) -> Outcome {
+    event(m, |m| unsafe { through_answer(m, slot, message.as_ptr(), message.len(), out.as_mut_ptr(), out.len()) })
+}
+
+pub fn state(m: &Master) -> u8 {
+    unsafe { through_state(m) }
+}
+
+pub fn slot(m: &Master, slot: usize) -> (u8, SlotView) {
+    numbered(|view| unsafe { through_slot(m, slot, view) })
+}
+
+pub fn step_count(m: &Master) -> usize {
+    unsafe { through_step_count(m) }
+}
+
+pub fn step(m: &Master, i: usize) -> (u8, Step) {
+    numbered(|view| unsafe { through_step(m, i, view) })
+}
+
+pub fn client(m: &Master, slot: usize) -> (u8, ClientView) {
+    numbered(|view| unsafe { through_client(m, slot, view) })
+}
+
+/// The calls by value that the wrappers stand over, under the wrappers' names.
+pub mod value {
+    use super::{into, ClientResult, Master, Message, MessageReading, Outcome, Shown, SlotResult, StepResult, Written};
+
+    extern "C" {
+        fn value_read(side: u32, bytes: *const u8, len: usize, reading: *mut MessageReading);
+        fn value_write(message: *const Message, out: *mut u8, out_len: usize, written: *mut Written);
+        fn value_write_transfer(pool: *const u8, len: usize, out: *mut u8, out_len: usize, written: *mut Written);
+        fn value_shown_of(value: u32, offset: i32, scale: f32, shown: *mut Shown);
+        fn value_on(m: *const Master, o: *mut Outcome);
+        fn value_off(m: *const Master, o: *mut Outcome);
+        fn value_attach(m: *const Master, slot: usize, name: u64, pool: *const u8, len: usize, o: *mut Outcome);
+        fn value_enable(m: *const Master, slot: usize, out: *mut u8, out_len: usize, o: *mut Outcome);
+        fn value_disable(m: *const Master, slot: usize, out: *mut u8, out_len: usize, o: *mut Outcome);
+        fn value_report(m: *const Master, slot: usize, report: u32, o: *mut Outcome);
+        fn value_lost(m: *const Master, slot: usize, o: *mut Outcome);
+        fn value_record(m: *const Master, o: *mut Outcome);
+        fn value_stop(m: *const Master, o: *mut Outcome);
+        fn value_cancel(m: *const Master, o: *mut Outcome);
+        fn value_indication(m: *const Master, slot: usize, msg: *const u8, len: usize, out: *mut u8, out_len: usize, o: *mut Outcome);
+        fn value_client_abort(m: *const Master, slot: usize, msg: *const u8, len: usize, o: *mut Outcome);
+        fn value_start(m: *const Master, o: *mut Outcome);
+        fn value_abort(m: *const Master, o: *mut Outcome);
+        fn value_tick(m: *const Master, mm: u32, frames: *mut u8, frames_len: usize, o: *mut Outcome);
+        fn value_answer(m: *const Master, slot: usize, msg: *const u8, len: usize, out: *mut u8, out_len: usize, o: *mut Outcome);
+        fn value_slot(m: *const Master, slot: usize, r: *mut SlotResult);
+        fn value_step(m: *const Master, i: usize, r: *mut StepResult);
+        fn value_client(m: *const Master, slot: usize, r: *mut ClientResult);
+    }
+
+    pub fn message_read(side: u32, bytes: &[u8]) -> MessageReading {
+        into(|reading| unsafe { value_read(side, bytes.as_ptr(), bytes.len(), reading) })
+    }
+
+    pub fn message_write(message: &Message, out: &mut [u8]) -> Written {
+        into(|written| unsafe { value_write(message, out.as_mut_ptr(), out.len(), written) })
+    }
+
+    pub fn transfer_write(pool: &[u8], out: &mut [u8]) -> Written {
+        into(|written| unsafe { value_write_transfer(pool.as_ptr(), pool.len(), out.as_mut_ptr(), out.len(), written) })
+    }
+
+    pub fn shown(value: u32, offset: i32, scale: f32) -> Shown {
+        into(|shown| unsafe { value_shown_of(value, offset, scale, shown) })
+    }
+
+    pub fn on(m: &Master) -> Outcome {
+        into(|o| unsafe { value_on(m, o) })
+    }
+
+    pub fn off(m: &Master) -> Outcome {
+        into(|o| unsafe { value_off(m, o) })
+    }
+
+    pub fn attach(m: &Master, slot: usize, name: u64, pool: &[u8]) -> Outcome {
+        into(|o| unsafe { value_attach(m, slot, name, pool.as_ptr(), pool.len(), o) })
+    }
+
+    pub fn enable(m: &Master, slot: usize, out: &mut [u8]) -> Outcome {
+        into(|o| unsafe { value_enable(m, slot, out.as_mut_ptr(), out.len(), o) })
+    }
+
+    pub fn disable(m: &Master, slot: usize, out: &mut [u8]) -> Outcome {
+        into(|o| unsafe { value_disable(m, slot, out.as_mut_ptr(), out.len(), o) })
+    }
+
+    pub fn report(m: &Master, slot: usize, report: u32) -> Outcome {
+        into(|o| unsafe { value_report(m, slot, report, o) })
+    }
+
+    pub fn lost(m: &Master, slot: usize) -> Outcome {
+        into(|o| unsafe { value_lost(m, slot, o) })
+    }
+
+    pub fn record(m: &Master) -> Outcome {
+        into(|o| unsafe { value_record(m, o) })
+    }
+
+    pub fn stop(m: &Master) -> Outcome {
+        into(|o| unsafe { value_stop(m, o) })
+    }
+
+    pub fn cancel(m: &Master) -> Outcome {
+        into(|o| unsafe { value_cancel(m, o) })
+    }
+
+    pub fn indication(m: &Master, slot: usize, message: &[u8], out: &mut [u8]) -> Outcome {
+        into(|o| unsafe { value_indication(m, slot, message.as_ptr(), message.len(), out.as_mut_ptr(), out.len(), o) })
+    }
+
+    pub fn client_abort(m: &Master, slot: usize, message: &[u8]) -> Outcome {
+        into(|o| unsafe { value_client_abort(m, slot, message.as_ptr(), message.len(), o) })
+    }
+
+    pub fn start(m: &Master) -> Outcome {
+        into(|o| unsafe { value_start(m, o) })
+    }
+
+    pub fn abort(m: &Master) -> Outcome {
+        into(|o| unsafe { value_abort(m, o) })
+    }
+
+    pub fn tick(m: &Master, mm: u32, frames: &mut [u8]) -> Outcome {
+        into(|o| unsafe { value_tick(m, mm, frames.as_mut_ptr(), frames.len(), o) })
+    }
+
+    pub fn answer(m: &Master, slot: usize, message: &[u8], out: &mut [u8]) -> Outcome {
+        into(|o| unsafe { value_answer(m, slot, message.as_ptr(), message.len(), out.as_mut_ptr(), out.len(), o) })
+    }
+
+    pub fn slot(m: &Master, slot: usize) -> SlotResult {
+        into(|r| unsafe { value_slot(m, slot, r) })
+    }
+
+    pub fn step(m: &Master, i: usize) -> StepResult {
+        into(|r| unsafe { value_step(m, i, r) })
+    }
+
+    pub fn client(m: &Master, slot: usize) -> ClientResult {
+        into(|r| unsafe { value_client(m, slot, r) })
+    }
+}
