@@ -1,180 +1,187 @@
-/* A terminal to try and to copy: it hands pools and messages to the library, records a plot end and replays it, and says what the library answers. */
-#include <stdio.h>
+/* A terminal over include/scm.h, to try and to copy. It plays a drill of two clients: records one plot end, replays it at twenty, and prints the
+   plot sheet with the inspector's three answers. It also runs a file of events. */
 #include <string.h>
 
-#include "scm.h"
+#include "host.h"
 
-/* A base with one function, function 5, numbered 1: the least pool that is taken, 61 bytes. */
-static const uint8_t least[61] = {
-    /* base: number 0, type 0, version 2 */
-    0, 0, 0, 2,
-    /* master NAME, NAME mask */
-    13, 13, 13, 13, 13, 13, 13, 13, 255, 255, 255, 255, 255, 255, 255, 255,
-    /* name 1, picture 2, both labels of one byte, one function; the labels and the list */
-    1, 0, 2, 0, 1, 1, 1, 'A', 'B', 1, 0,
-    /* function: number 1, type 1, ID 5, preferred trigger 1 (time), style 00 */
-    1, 0, 1, 5, 1, 0,
-    /* minimum, maximum, offset, scale, decimals and unit are all one bits */
-    255, 255, 255, 255, 255, 255, 255, 255, 255, 255, 255, 255, 255, 255, 255, 255, 255, 255, 255,
-    /* name 3, picture 4, no state */
-    3, 0, 4, 0, 0,
-};
-
-static void check(const char *what, const uint8_t *pool, size_t length)
+void must(const char *what, uint8_t number)
 {
-    scm_verdict v = scm_pool_check(pool, length);
-    printf("%-36s %02X %04X\n", what, v.code, v.object);
+    if (number != SCM_OK) {
+        fail("%s: number %u, %s", what, (unsigned)number, scm_number_text(number));
+    }
 }
 
-/* The objects of a pool, one after the other, as a screen would list them. */
-static void list(const uint8_t *pool, size_t length)
+scm_message message_of(uint32_t side, uint8_t kind, const uint8_t *bytes)
 {
-    static const char *const kinds[] = {"base", "function", "state"};
-    size_t place = 0;
+    scm_message message;
 
-    for (;;) {
-        scm_object object = scm_object_at(pool, length, place);
-        if (object.kind == SCM_OBJECT_NONE) {
+    must("reading a message", scm_message_read(side, bytes, 8, &message));
+    if (message.kind != kind) {
+        fail("a message of kind %u instead of %u", (unsigned)message.kind, (unsigned)kind);
+    }
+    return message;
+}
+
+/* An event that must be done. */
+static struct outcome demand(struct terminal *terminal, struct event event)
+{
+    struct outcome outcome;
+
+    if (terminal->log != NULL) {
+        write_event(terminal->log, &event);
+    }
+    must(event_forms[event.kind].word, run_event(terminal, &event, &outcome));
+    return outcome;
+}
+
+/* On a drill each client reports by itself, several times a second. */
+static void all_report(struct terminal *terminal, uint32_t report)
+{
+    for (uint32_t slot = 0; slot < CLIENTS; slot++) {
+        demand(terminal, (struct event){.kind = REPORT, .slot = slot, .report = report});
+    }
+}
+
+/* The master is switched on, the clients' pools have come, and the operator enables the clients. */
+static void set_up(struct terminal *terminal)
+{
+    scm_init(&terminal->master);
+    demand(terminal, (struct event){.kind = ON});
+    for (uint32_t slot = 0; slot < CLIENTS; slot++) {
+        const struct client *client = &clients[slot];
+        scm_verdict verdict = scm_pool_check(client->pool, client->length);
+        if (verdict.code != SCM_POOL_TAKEN) {
+            fail("the pool of slot %" PRIu32 ": code %02X, object %04X, %s", slot, verdict.code, verdict.object, scm_pool_code_text(verdict.code));
+        }
+        demand(terminal, (struct event){.kind = ATTACH, .slot = slot, .name = client->name, .bytes = client->pool, .length = client->length});
+        demand(terminal, (struct event){.kind = ENABLE, .slot = slot});
+    }
+    all_report(terminal, SCM_REPORT_READY);
+}
+
+/* The driver drives one plot end by hand, at 140 mm a tick, which is 5 km/h, and the clients indicate what he does. */
+static void record_plot_end(struct terminal *terminal, uint32_t depth)
+{
+    struct event event;
+    size_t said = 0;
+
+    demand(terminal, (struct event){.kind = RECORD});
+    all_report(terminal, SCM_REPORT_RECORD);
+    for (uint32_t tick = 1; said < INDICATIONS; tick++) {
+        demand(terminal, (struct event){.kind = TICK, .mm = 140});
+        for (; drill_indicates(said, tick, depth, &event); said++) {
+            struct outcome outcome = demand(terminal, event);
+            if (message_of(SCM_MASTER, SCM_INDICATION_RESPONSE, outcome.out).step.error != 0) {
+                fail("an indication was not recorded");
+            }
+        }
+        if (tick == DRIVER_STOPS) {
+            demand(terminal, (struct event){.kind = STOP});
+        }
+    }
+    if (scm_state(&terminal->master) != SCM_READY) {
+        fail("the recording did not end");
+    }
+    all_report(terminal, SCM_REPORT_READY);
+}
+
+/* The millimetres driven in a tick: each plot has its speed, and it varies within the plot. */
+static uint32_t driven(unsigned plot, uint32_t tick)
+{
+    static const uint32_t speeds[PLOTS] = {140, 131, 118, 152, 163, 127, 109, 145, 170, 136, 122, 158, 174, 113, 148, 133, 166, 105, 141, 155};
+    static const uint32_t more[8] = {0, 3, 7, 9, 8, 4, 1, 2};
+
+    return speeds[plot] + more[(tick + plot) % 8];
+}
+
+/* A tick every 100 ms; its frames go to the clients, whose answers come in before the next tick; until the master is ready again. */
+static void replay_plot_end(struct terminal *terminal, unsigned plot, struct sheet *sheet)
+{
+    struct event event;
+
+    drill_begins(plot);
+    sheet->plots = plot + 1;
+    demand(terminal, (struct event){.kind = START});
+    all_report(terminal, SCM_REPORT_PLAYBACK);
+    for (uint32_t tick = 1; scm_state(&terminal->master) == SCM_PLAYBACK; tick++) {
+        uint32_t mm = driven(plot, tick);
+        struct outcome outcome = demand(terminal, (struct event){.kind = TICK, .mm = mm});
+        if (scm_state(&terminal->master) == SCM_ABORT) {
             break;
         }
-        printf("place %2zu: %s, number %u\n", place, kinds[object.kind], (unsigned)object.number);
-        place = object.next;
-    }
-}
-
-/* The recorded value is kept as it is; what the screen shows is made from it each time. */
-static void show(uint32_t value)
-{
-    double millimetres;
-
-    if (scm_shown(value, 0, 0.1f, &millimetres) == 0) {
-        printf("a depth of %u is shown as %.1f mm\n", (unsigned)value, millimetres);
-    }
-}
-
-static void print_bytes(const char *what, const uint8_t *bytes, size_t length)
-{
-    printf("%-28s", what);
-    for (size_t i = 0; i < length; i++) {
-        printf(" %02X", bytes[i]);
-    }
-    printf("\n");
-}
-
-/* A command leaves, its answer comes in, and the acknowledgement leaves. */
-static void exchange(void)
-{
-    static const uint8_t answer[8] = {0x34, 0x05, 0x82, 0x00, 0xFF, 0xFF, 0xFF, 0xFF};
-    scm_message command = {.kind = SCM_COMMAND, .step = {.function = 5, .state = 2, .tan = 255, .value = 240}};
-    scm_message message;
-    uint8_t out[8];
-    size_t length;
-
-    if (scm_message_write(&command, out, sizeof out, &length) == 0) {
-        print_bytes("command, value 240:", out, length);
-    }
-    if (scm_message_read(SCM_CLIENT, answer, sizeof answer, &message) == 0 && message.kind == SCM_ANSWER) {
-        message.kind = SCM_ANSWER_ACKNOWLEDGEMENT;
-        if (scm_message_write(&message, out, sizeof out, &length) == 0) {
-            print_bytes("answer:", answer, sizeof answer);
-            print_bytes("acknowledged:", out, length);
+        sheet_tick(sheet, mm, &outcome);
+        for (uint32_t i = 0; i < outcome.count; i++) {
+            drill_takes(tick, outcome.frames + SCM_FRAME_BYTES * i);
+        }
+        while (drill_answers(tick, &event)) {
+            outcome = demand(terminal, event);
+            sheet_answer(sheet, &event, &outcome);
         }
     }
+    if (scm_state(&terminal->master) != SCM_READY) {
+        fail("plot %u: the playback ended in an abort", plot + 1);
+    }
+    sheet_check(sheet);
+    all_report(terminal, SCM_REPORT_READY);
 }
 
-/* The same drill with a coulter that has one state: function 5, style 10, state 2. 71 bytes. */
-static const uint8_t drill[71] = {
-    0, 0, 0, 2, 13, 13, 13, 13, 13, 13, 13, 13, 255, 255, 255, 255, 255, 255, 255, 255, 1, 0, 2, 0, 1, 1, 1, 'A', 'B', 1, 0,
-    /* function: values from 0 to 1000, offset 0, scale 0.1, one decimal, unit 5; one state, number 2 */
-    1, 0, 1, 5, 1, 2, 0, 0, 0, 0, 232, 3, 0, 0, 0, 0, 0, 0, 205, 204, 204, 61, 1, 5, 0, 3, 0, 4, 0, 1, 2, 0,
-    /* state: number 2, type 2, ID 2 */
-    2, 0, 2, 2, 6, 0, 7, 0,
-};
-
-static void demand(const char *what, uint8_t number)
+static void end_file(FILE *file, const char *path)
 {
-    if (number != 0) {
-        printf("%s: refused, number %u\n", what, (unsigned)number);
+    bool broken = ferror(file) != 0;
+
+    if (fclose(file) != 0 || broken) {
+        fail("%s cannot be written", path);
     }
 }
 
-/* One tick; the frames that leave are printed. */
-static void tick(scm_master *m, unsigned n, uint32_t mm)
+/* The whole story. With a log, the events are written to it instead of the sheet; picture is a path, or NULL. */
+static void play(uint32_t depth, const char *picture, FILE *log)
 {
-    uint8_t frames[SCM_FRAMES_BYTES];
-    uint32_t count;
-    char what[32];
+    static struct terminal terminal;
+    static struct sheet sheet;
 
-    demand("tick", scm_tick(m, mm, frames, sizeof frames, &count));
-    for (uint32_t i = 0; i < count; i++) {
-        const uint8_t *frame = frames + SCM_FRAME_BYTES * i;
-        snprintf(what, sizeof what, "tick %u, slot %u:", n, (unsigned)frame[0]);
-        print_bytes(what, frame + 1, SCM_FRAME_BYTES - 1);
+    terminal.log = log;
+    set_up(&terminal);
+    record_plot_end(&terminal, depth);
+    sheet_recorded(&sheet, &terminal.master);
+    for (unsigned plot = 0; plot < PLOTS; plot++) {
+        replay_plot_end(&terminal, plot, &sheet);
     }
-}
-
-/* A plot end is recorded: at tick 3 the coulter is lowered, at tick 5 it has its depth. Then it is replayed. */
-static void plot_end(uint8_t depth)
-{
-    static scm_master m;
-    const uint8_t start[8] = {0x32, 0x05, 0x42, 0x00, 0xFF, 0xFF, 0xFF, 0xFF};
-    const uint8_t finish[8] = {0x32, 0x05, 0x82, 0x00, depth, 0x00, 0x00, 0x00};
-    const uint8_t answer[8] = {0x34, 0x05, 0x82, 0x00, 0x01, 0xFF, 0xFF, 0xFF};
-    uint8_t out[SCM_ANSWER_BYTES];
-    uint8_t code;
-    uint16_t object;
-    scm_step_view step;
-
-    scm_init(&m);
-    demand("on", scm_on(&m));
-    demand("attach", scm_attach(&m, 0, UINT64_C(0x0D0D0D0D0D0D0D0D), drill, sizeof drill, &code, &object));
-    demand("enable", scm_enable(&m, 0, out, sizeof out));
-    print_bytes("enable:", out, sizeof out);
-    demand("report", scm_report(&m, 0, SCM_REPORT_READY));
-    demand("record", scm_record(&m));
-    demand("report", scm_report(&m, 0, SCM_REPORT_RECORD));
-    for (unsigned n = 1; n <= 5; n++) {
-        tick(&m, n, 400);
-        if (n == 3 || n == 5) {
-            demand("indication", scm_indication(&m, 0, n == 3 ? start : finish, 8, out, sizeof out));
-            print_bytes(n == 3 ? "started, answered:" : "finished, answered:", out, sizeof out);
+    if (log == NULL) {
+        sheet_print(&sheet);
+    }
+    if (picture != NULL) {
+        FILE *file = fopen(picture, "w");
+        if (file == NULL) {
+            fail("%s cannot be written", picture);
         }
+        picture_write(file, &sheet);
+        end_file(file, picture);
     }
-    demand("stop", scm_stop(&m));
-    demand("step", scm_step(&m, 0, &step));
-    printf("recorded: function %u, state %u, value %u, mark %u\n", (unsigned)step.function, (unsigned)step.state,
-           (unsigned)step.value, (unsigned)step.mark);
-    demand("report", scm_report(&m, 0, SCM_REPORT_READY));
-    demand("start", scm_start(&m));
-    for (unsigned n = 1; n <= 4; n++) {
-        tick(&m, n, 400);
-    }
-    demand("answer", scm_answer(&m, 0, answer, sizeof answer, out, sizeof out));
-    print_bytes("done, acknowledged:", out, sizeof out);
-    printf("the master is %s\n", scm_state(&m) == SCM_READY ? "ready" : "not ready");
 }
 
-int main(void)
+static const char usage[] =
+    "usage: terminal [DEPTH [PICTURE.svg]]   play the drill and print the plot sheet; the depth is 0 to 1000 tenths of a millimetre, or else 240\n"
+    "       terminal --log DEPTH             the same, but print its events\n"
+    "       terminal --events FILE           run a file of events\n";
+
+int main(int argc, char **argv)
 {
-    uint8_t altered[sizeof least];
+    bool log = argc == 3 && strcmp(argv[1], "--log") == 0;
+    uint32_t depth = 240;
+    int status = 0;
 
-    check("the least pool", least, sizeof least);
-    check("without its last byte", least, sizeof least - 1);
-    check("no bytes", least, 0);
-
-    memcpy(altered, least, sizeof least);
-    altered[27] = '?';
-    check("a version label with a question mark", altered, sizeof altered);
-
-    memcpy(altered, least, sizeof least);
-    altered[29] = 7;
-    check("a list that names object 7", altered, sizeof altered);
-
-    list(least, sizeof least);
-    exchange();
-    show(240);
-    show(220);
-    plot_end(240);
-    plot_end(220);
-    return 0;
+    if (argc == 3 && strcmp(argv[1], "--events") == 0) {
+        static struct terminal terminal;
+        scm_init(&terminal.master);
+        terminal.log = stdout;
+        status = script_run(&terminal, argv[2]);
+    } else if (argc > 3 || (argc > 1 && read_number(argv[log ? 2 : 1], &depth) != NULL) || depth > function_of(DRILL, COULTERS).maximum) {
+        fprintf(stderr, "%s", usage);
+        return 2;
+    } else {
+        play(depth, argc == 3 && !log ? argv[2] : NULL, log ? stdout : NULL);
+    }
+    end_file(stdout, "standard output");
+    return status;
 }
