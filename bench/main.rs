@@ -1,7 +1,8 @@
 //! The library beside the plain models of the tests, in one run: the time of every call and its ratio to the model's, the
-//! bytes of state and of stack, the share of a tick, and how the cost grows with objects and steps. Under an emulator only
-//! ratios and bytes mean something. Fails where library and model differ, where the check of a full pool takes more than
-//! three times the model's time, and where a cost is plainly quadratic.
+//! share of a tick, how the cost grows with objects and steps, and the bytes that every call moves, in copies of a master,
+//! and that it takes of the stack. Under an emulator only ratios and bytes mean something. With the argument `bytes` it
+//! counts these alone. Fails where library and model differ, where a limit below is missed, and where a cost is plainly
+//! quadratic.
 
 #![deny(warnings)]
 
@@ -9,6 +10,7 @@ mod calls;
 mod growth;
 mod handed;
 mod master;
+mod moved;
 mod pool;
 mod pools;
 mod rows;
@@ -54,12 +56,17 @@ mod recording;
 mod verification;
 
 use library::{Master, Outcome};
-use rows::{Row, Times};
+use rows::{Bytes, Row, Times};
 use std::mem::size_of;
 use std::process::exit;
 
 /// The most that the check of a full pool may take of the model's time.
-const GOAL: f64 = 3.0;
+const CHECK: f64 = 3.0;
+/// The most copies of a master that a tick may make, and any call on a master; of an attach, beyond what judging its pool moves.
+const TICK_COPIES: f64 = 2.2;
+const COPIES: f64 = 5.0;
+/// The most bytes of stack of a call with its structs.
+const STACK: usize = 131_072;
 /// 100 ms, in nanoseconds.
 const TICK: f64 = 1e8;
 
@@ -69,37 +76,59 @@ pub fn fail(why: &str) -> ! {
 }
 
 fn main() {
-    let (mut pools, mut masters) = (pool::rows(), master::rows());
-    let mut all = rows::table(&mut pools, None);
-    check_goal(&pools, &all);
-    let copy = master::copy();
-    println!("\na copy of a master by memcpy takes {:.3} µs", copy / 1_000.0);
-    all.extend(rows::table(&mut masters, Some(copy)));
-    share_of_tick(pools.iter().chain(&masters), &all);
-    let quadratic = growth::report();
-    println!("\nbytes of state: {} a master, {} what an event gives back\n", size_of::<Master>(), size_of::<Outcome>());
-    rows::stacks(&mut pools);
-    println!();
-    rows::stacks(&mut masters);
-    if !quadratic.is_empty() {
-        fail(&format!("plainly quadratic: {}", quadratic.join("; ")));
+    let mut rows = pool::rows();
+    rows.extend(master::rows());
+    rows.iter_mut().for_each(rows::compare);
+    let mut missed = Vec::new();
+    if std::env::args().nth(1).as_deref() != Some("bytes") {
+        let times = rows::times(&mut rows);
+        missed.extend(slow_checks(&rows, &times));
+        share_of_tick(&rows, &times);
+        missed.extend(growth::report().iter().map(|title| format!("{title}: plainly quadratic")));
+        println!("\nbytes of state: {} a master, {} what an event gives back\n", size_of::<Master>(), size_of::<Outcome>());
     }
-    println!("\nbench: no cost is plainly quadratic");
+    let bytes = rows::bytes(&mut rows);
+    if bytes.iter().all(|bytes| bytes.copies == 0.0) {
+        fail("the bytes that the library moves are not counted");
+    }
+    missed.extend(many_copies(&rows, &bytes));
+    missed.extend(deep_stacks(&rows, &bytes));
+    if !missed.is_empty() {
+        fail(&missed.join("\nbench: "));
+    }
+    println!("\nbench: every limit is kept");
 }
 
 /// Only of full pools: of the least ones the library's tables, which it clears, cost more than the pool.
-fn check_goal(rows: &[Row], times: &[Times]) {
+fn slow_checks(rows: &[Row], times: &[Times]) -> Option<String> {
     let full = rows.iter().zip(times).filter(|(row, _)| row.call == "scm_pool_check" && row.case.starts_with(pool::FULL));
     let worst = full.map(|(_, times)| times.library / times.model).fold(0.0, f64::max);
-    println!("worst ratio of the check of a full pool: {worst:.2}, goal {GOAL:.2}");
-    if worst > GOAL {
-        fail("the check of a full pool misses its goal");
+    println!("\nworst ratio of the check of a full pool: {worst:.2}, limit {CHECK:.2}");
+    (worst > CHECK).then(|| format!("scm_pool_check of a full pool: {worst:.2} times the model's time, limit {CHECK:.2}"))
+}
+
+fn share_of_tick(rows: &[Row], times: &[Times]) {
+    let slowest = rows.iter().zip(times).max_by(|(_, one), (_, other)| one.library.total_cmp(&other.library));
+    if let Some((row, Times { library, .. })) = slowest {
+        println!("slowest: {}: {:.3} µs, {:.3} % of a tick of 100 ms", row.name(), library / 1_000.0, 100.0 * library / TICK);
     }
 }
 
-fn share_of_tick<'a>(rows: impl Iterator<Item = &'a Row>, times: &[Times]) {
-    let slowest = rows.zip(times).max_by(|(_, one), (_, other)| one.library.total_cmp(&other.library));
-    if let Some((row, Times { library, .. })) = slowest {
-        println!("\nslowest: {}, {}: {:.3} µs, {:.3} % of a tick of 100 ms", row.call, row.case, library / 1_000.0, 100.0 * library / TICK);
-    }
+fn many_copies(rows: &[Row], bytes: &[Bytes]) -> Vec<String> {
+    let judged = |case| {
+        let same = rows.iter().zip(bytes).find(|(row, _)| row.call == "scm_profile_of" && row.case == case);
+        same.map_or(0.0, |(_, bytes)| bytes.copies)
+    };
+    let limit = |row: &Row| match row.call {
+        "scm_tick" => TICK_COPIES,
+        "scm_attach" => COPIES + judged(row.case),
+        _ => COPIES,
+    };
+    let above = rows.iter().zip(bytes).filter(|(row, bytes)| row.on_master && bytes.copies > limit(row));
+    above.map(|(row, bytes)| format!("{}: {:.1} copies, limit {:.1}", row.name(), bytes.copies, limit(row))).collect()
+}
+
+fn deep_stacks(rows: &[Row], bytes: &[Bytes]) -> Vec<String> {
+    let above = rows.iter().zip(bytes).filter(|(_, bytes)| bytes.stack > STACK);
+    above.map(|(row, bytes)| format!("{}: {} bytes of stack with its structs, limit {STACK}", row.name(), bytes.stack)).collect()
 }

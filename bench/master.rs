@@ -8,7 +8,7 @@ use crate::model;
 use crate::pools;
 use crate::rows::{row, Row};
 use crate::states::{answer, indication, playing, ready, record, record_complete, recorded, tick, Pair};
-use crate::times::{hide, least};
+use crate::times::hide;
 use std::cell::RefCell;
 use std::mem::size_of;
 use std::rc::Rc;
@@ -37,16 +37,6 @@ fn model_event(it: &Given) -> u64 {
     let outcome = it.event.on_model(&mut master, &mut it.lent.borrow_mut());
     let (number, count) = outcome.map_or_else(|refused| (refused.number, 0), |done| (0, done.count));
     u64::from(number) << 32 | u64::from(count) << 8 | u64::from(master.tan)
-}
-
-/// Nanoseconds of one copy of a state.
-pub fn copy() -> f64 {
-    let (from, mut to) = (Box::new(handed::new()), Box::new(handed::new()));
-    let mut copy = move || {
-        *to = *hide(&*from);
-        u64::from(hide(&*to).tan)
-    };
-    least(&mut [&mut copy])[0]
 }
 
 pub fn rows() -> Vec<Row> {

@@ -50,7 +50,10 @@ fn on_pools() -> Vec<Row> {
     let rewrite = |case, pool| row(("scm_pool_rewrite", case), 0, lent(pool), library_rewrite, model_rewrite);
     vec![
         kept("61 bytes", pools::small()),
+        kept("40 functions of 8 states", pools::middle()),
+        kept("16,384 bytes, many functions", pools::many_functions()),
         kept("16,384 bytes, long lists", pools::long_lists()),
+        kept("long lists of alike numbers", pools::alike_numbers()),
         object("a state", (pools::many_states(), generate::FULL - 8)),
         object("a base that lists 255 functions", base_first()),
         rewrite("61 bytes", pools::small()),

@@ -1,8 +1,11 @@
 //! Rows of the report: a call of the library beside the same of the model.
 
 use crate::fail;
+use crate::library::Master;
+use crate::moved;
 use crate::stack;
 use crate::times::{hide, least, Call};
+use std::mem::size_of;
 use std::rc::Rc;
 
 /// A call of include/scm.h in one case. The caller's frame holds so many bytes of structs that are handed over and given
@@ -10,9 +13,16 @@ use std::rc::Rc;
 pub struct Row {
     pub call: &'static str,
     pub case: &'static str,
-    pub structs: usize,
+    pub on_master: bool,
+    structs: usize,
     library: Box<Call>,
     model: Box<Call>,
+}
+
+impl Row {
+    pub fn name(&self) -> String {
+        [self.call, self.case].join(if self.case.is_empty() { "" } else { ", " })
+    }
 }
 
 /// What is given is made once, and is not part of the times.
@@ -21,7 +31,15 @@ pub fn row<T: 'static>(name: (&'static str, &'static str), structs: usize, given
     let same = Rc::clone(&given);
     let library = Box::new(move || library(hide(&*given)));
     let model = Box::new(move || model(hide(&*same)));
-    Row { call: name.0, case: name.1, structs, library, model }
+    Row { call: name.0, case: name.1, on_master: structs >= size_of::<Master>(), structs, library, model }
+}
+
+/// Fails where library and model differ.
+pub fn compare(row: &mut Row) {
+    let (library, model) = ((row.library)(), (row.model)());
+    if library != model {
+        fail(&format!("{}: the library gives {library:X}, the model {model:X}", row.name()));
+    }
 }
 
 /// Nanoseconds of the library's call and of the model's.
@@ -30,37 +48,37 @@ pub struct Times {
     pub model: f64,
 }
 
-/// Measures and prints a table. Where the time of one copy of the state is given, times are told in such copies too.
-pub fn table(rows: &mut [Row], copy: Option<f64>) -> Vec<Times> {
-    let copies = if copy.is_some() { "copies" } else { "" };
-    println!("{:18} {:36} {:>10} {:>10} {:>7} {:>7}", "call", "", "library µs", "model µs", "ratio", copies);
-    rows.iter_mut().map(|row| times(row, copy)).collect()
+/// Measures and prints the times.
+pub fn times(rows: &mut [Row]) -> Vec<Times> {
+    println!("{:18} {:38} {:>10} {:>10} {:>7}", "call", "", "library µs", "model µs", "ratio");
+    rows.iter_mut().map(times_of).collect()
 }
 
-fn times(row: &mut Row, copy: Option<f64>) -> Times {
-    let (library, model) = ((row.library)(), (row.model)());
-    if library != model {
-        fail(&format!("{}, {}: the library gives {library:X}, the model {model:X}", row.call, row.case));
-    }
+fn times_of(row: &mut Row) -> Times {
     let times = least(&mut [&mut *row.library, &mut *row.model]);
     let (library, model) = (times[0], times[1]);
-    let copies = copy.map_or(String::new(), |copy| format!("{:.1}", library / copy));
-    let ratio = library / model;
-    println!("{:18} {:36} {:10.3} {:10.3} {ratio:7.2} {copies:>7}", row.call, row.case, library / 1_000.0, model / 1_000.0);
+    println!("{:18} {:38} {:10.3} {:10.3} {:7.2}", row.call, row.case, library / 1_000.0, model / 1_000.0, library / model);
     Times { library, model }
 }
 
-/// Prints the stack of each call, the most of its cases. Threads are started here, which makes emulators slower: this
-/// comes after all times.
-pub fn stacks(rows: &mut [Row]) {
-    println!("{:18} {:>12} {:>18}", "call", "stack bytes", "with its structs");
-    let mut rows = rows.iter_mut().peekable();
-    let mut most = 0;
-    while let Some(row) = rows.next() {
-        most = most.max(stack::bytes(&mut *row.library));
-        if rows.peek().map(|next| next.call) != Some(row.call) {
-            println!("{:18} {most:12} {:18}", row.call, most + row.structs);
-            most = 0;
-        }
-    }
+/// Bytes that a call moves, in copies of a master to one digit, and its bytes of stack with its structs.
+pub struct Bytes {
+    pub copies: f64,
+    pub stack: usize,
+}
+
+/// Counts and prints the bytes. Threads are started here, which makes emulators slower: this comes after all times.
+pub fn bytes(rows: &mut [Row]) -> Vec<Bytes> {
+    println!("{:18} {:38} {:>7} {:>12} {:>17}", "call", "", "copies", "stack bytes", "with its structs");
+    rows.iter_mut().map(bytes_of).collect()
+}
+
+fn bytes_of(row: &mut Row) -> Bytes {
+    moved::taken();
+    (row.library)();
+    let copies = (10.0 * moved::taken() as f64 / size_of::<Master>() as f64).round() / 10.0;
+    let own = stack::bytes(&mut *row.library);
+    let stack = own + row.structs;
+    println!("{:18} {:38} {copies:7.1} {own:12} {stack:17}", row.call, row.case);
+    Bytes { copies, stack }
 }
