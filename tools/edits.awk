@@ -3,6 +3,7 @@
 #
 #   awk -v folder=FOLDER -v task=plan  -f tools/edits.awk EDIT..     prints the runs in which to try the edits, a line for each: those tried together
 #   awk -v folder=FOLDER -v task=alter -f tools/edits.awk EDIT..     makes them all; status 3 where one does not fit
+#   awk -v folder=FOLDER -v task=unfit -f tools/edits.awk EDIT..     prints those that do not fit
 FNR == 1 { edits[++count] = FILENAME; file = "" }
 /^fails: / { fails[FILENAME] = substr($0, 8) }
 /^file: / { file = substr($0, 7) }
@@ -11,7 +12,8 @@ FNR == 1 { edits[++count] = FILENAME; file = "" }
 END {
     for (i = 1; i <= count; i++) if (!(edits[i] in changed)) unfit[edits[i]] = 1
     if (task == "plan") plan()
-    else alter()
+    else if (task == "alter") alter()
+    else for (i = 1; i <= count; i++) if (edits[i] in unfit) print edits[i]
 }
 
 function text_of(file,    path, line) {
