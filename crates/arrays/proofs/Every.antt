@@ -1,14 +1,13 @@
--- Laws of `Every`, `Pairs`, `some` and `firstFrom`: an element more, some left out, elements seen through a function.
--- Assumes nothing.
+-- Laws of `Every`, `EveryTwo`, `some` and `firstFrom`: an element more, some left out, elements seen through a function.
 use Prim.Native.Nat.{ℕ, zero, suc, _+_, _<_}
 use mathlib.Core.Path.{_≡_, refl, sym, ap, subst, _∙_}
-use mathlib.Core.Bool.{Bool, true, false, _||_, cond, true≢false, or-false, or-assoc}
+use mathlib.Core.Bool.{Bool, true, false, _||_, cond, true≢false, or-false, or-true, or-assoc}
 use mathlib.Core.Logic.{_⊎_, inl, inr}
 use mathlib.Core.List.{List, [], _∷_, _++_, map}
 use native.Mathlib.Omega.{arith}
 use lib.ListN.{length, take, getD}
 use Rattle.arrays.specs.Arrays.{some, firstFrom, those}
-use Rattle.arrays.specs.Every.{Every, Pairs}
+use Rattle.arrays.specs.Every.{Every, EveryTwo}
 
 pub map-take : {X Y : Type 0} (f : X → Y) (n : ℕ) (l : List X) → map f (take n l) ≡ take n (map f l)
 map-take f zero l = refl
@@ -42,21 +41,21 @@ module _ {X : Type 0} where
 -- ---- every two
 
 module _ {X : Type 0} (R : X → X → Type 0) where
-  pub pairs-at : (l : List X) (i j : ℕ) (d : X) → i < j → j < length l → Pairs R l → R (getD l i d) (getD l j d)
+  pub pairs-at : (l : List X) (i j : ℕ) (d : X) → i < j → j < length l → EveryTwo R l → R (getD l i d) (getD l j d)
   pairs-at [] i j d h k p = absurd (omega arith)
   pairs-at (x ∷ l) i zero d h k p = absurd (omega arith)
   pairs-at (x ∷ l) zero (suc j) d h k p = every-at (R x) l j d (omega arith) (p .0)
   pairs-at (x ∷ l) (suc i) (suc j) d h k p = pairs-at l i j d (omega arith) (omega arith) (p .1)
 
-  pub pairs-more : (l : List X) (x : X) → Pairs R l → Every (λ y. R y x) l → Pairs R (l ++ x ∷ [])
+  pub pairs-more : (l : List X) (x : X) → EveryTwo R l → Every (λ y. R y x) l → EveryTwo R (l ++ x ∷ [])
   pairs-more [] x p h = (tt, tt)
   pairs-more (y ∷ l) x p h = (every-more (R y) l x (p .0) (h .0), pairs-more l x (p .1) (h .1))
 
-  pub pairs-those : (p : X → Bool) (l : List X) → Pairs R l → Pairs R (those p l)
+  pub pairs-those : (p : X → Bool) (l : List X) → EveryTwo R l → EveryTwo R (those p l)
   pairs-those p [] h = tt
   pairs-those p (x ∷ l) h = go (p x) (pairs-those p l (h .1))
     where
-      go : (t : Bool) → Pairs R (those p l) → Pairs R (cond t (x ∷ those p l) (those p l))
+      go : (t : Bool) → EveryTwo R (those p l) → EveryTwo R (cond t (x ∷ those p l) (those p l))
       go true k = (every-those (R x) p l (h .0), k)
       go false k = k
 
@@ -71,11 +70,11 @@ module _ {X Y : Type 0} (f : X → Y) where
   every-back P [] h = tt
   every-back P (x ∷ l) h = (h .0, every-back P l (h .1))
 
-  pub pairs-map : (R : Y → Y → Type 0) (l : List X) → Pairs (λ x y. R (f x) (f y)) l → Pairs R (map f l)
+  pub pairs-map : (R : Y → Y → Type 0) (l : List X) → EveryTwo (λ x y. R (f x) (f y)) l → EveryTwo R (map f l)
   pairs-map R [] h = tt
   pairs-map R (x ∷ l) h = (every-map (R (f x)) l (h .0), pairs-map R l (h .1))
 
-  pairs-back : (R : Y → Y → Type 0) (l : List X) → Pairs R (map f l) → Pairs (λ x y. R (f x) (f y)) l
+  pairs-back : (R : Y → Y → Type 0) (l : List X) → EveryTwo R (map f l) → EveryTwo (λ x y. R (f x) (f y)) l
   pairs-back R [] h = tt
   pairs-back R (x ∷ l) h = (every-back (R (f x)) l (h .0), pairs-back R l (h .1))
 
@@ -92,8 +91,8 @@ module _ {X Y : Type 0} (f : X → Y) where
     pub every-alike : (P : Y → Type 0) → Every (λ x. P (f x)) l → Every (λ x. P (f x)) m
     every-alike P h = every-back P m (subst (Every P) e (every-map P l h))
 
-    pub pairs-alike : (R : Y → Y → Type 0) → Pairs (λ x y. R (f x) (f y)) l → Pairs (λ x y. R (f x) (f y)) m
-    pairs-alike R h = pairs-back R m (subst (Pairs R) e (pairs-map R l h))
+    pub pairs-alike : (R : Y → Y → Type 0) → EveryTwo (λ x y. R (f x) (f y)) l → EveryTwo (λ x y. R (f x) (f y)) m
+    pairs-alike R h = pairs-back R m (subst (EveryTwo R) e (pairs-map R l h))
 
     pub some-alike : (p : Y → Bool) → some (λ x. p (f x)) l ≡ some (λ x. p (f x)) m
     some-alike p = sym (some-map p l) ∙ ap (some p) e ∙ some-map p m
@@ -106,6 +105,17 @@ module _ {X Y : Type 0} (f : X → Y) where
 pub neither : (a b : Bool) → (a || b) ≡ false → (a ≡ false) × (b ≡ false)
 neither true b e = absurd (true≢false e)
 neither false b e = (refl, e)
+
+module _ {X : Type 0} (p q r : X → Bool) where
+  -- a test that is one of two others
+  pub some-either : ((x : X) → p x ≡ (q x || r x)) → (l : List X) → some p l ≡ (some q l || some r l)
+  some-either e [] = refl
+  some-either e (x ∷ l) = rw (e x, some-either e l) (swap (q x) (r x) (some q l) (some r l))
+    where
+      swap : (a b c d : Bool) → ((a || b) || (c || d)) ≡ ((a || c) || (b || d))
+      swap true b c d = refl
+      swap false true c d = sym (or-true c)
+      swap false false c d = refl
 
 module _ {X : Type 0} (p : X → Bool) where
   pub some-more : (l : List X) (x : X) → some p (l ++ x ∷ []) ≡ (some p l || p x)

@@ -1,5 +1,4 @@
 -- A loop that ends at `at_most(count, room)` looks at the first count cells.
--- Assumes nothing.
 use Prim.Native.Nat.{ℕ, _≤_, min}
 use mathlib.Core.Path.{_≡_, refl, sym, _∙_}
 use mathlib.Core.Bool.{Bool, true, false}

@@ -1,5 +1,4 @@
 -- Lists as the first cells of an array: looking for an element, keeping some of them, filling up with blank ones.
--- Assumes nothing: these are definitions.
 use Prim.Native.Nat.{ℕ, zero, suc, _+_, min}
 use mathlib.Core.Bool.{Bool, true, false, _||_, cond}
 use mathlib.Core.List.{List, [], _∷_}

@@ -2,11 +2,14 @@
 ghost use mathlib.Core.Path.{_≡_};
 ghost use Rattle.arrays.specs.Arrays.{some};
 ghost use Rattle.client.specs.Clients.{isTaken, isEnabled, isAwake, isNamed, isOther, passes, blankSlot, attached, withWanted, withReport};
-ghost use Rattle.client.specs.Records.{blankClient, clientOf};
+ghost use Rattle.client.specs.Records.{blankRecord, recordOf};
 use octets::label::Label;
 use octets::label::blank;
 use profile::Profile;
 use profile::blank_profile;
+
+// How many slots there are.
+pub const SLOTS: usize = 8;
 
 // A client's last report, as F.3 numbers them. A number that is not here counts as playback.
 pub const DISABLED: u8 = 0;
@@ -21,7 +24,7 @@ pub const ABORT: u8 = 5;
 
 // taken and wanted are 0 for no; any other number is yes. An empty slot is blank.
 #[repr(C)]
-pub struct Slot {
+pub struct Client {
     pub taken: u8,
     pub wanted: u8,
     pub report: u8,
@@ -31,7 +34,7 @@ pub struct Slot {
 
 // What a sequence keeps of a client. used is 0 for no; any other number is yes.
 #[repr(C)]
-pub struct Client {
+pub struct ClientRecord {
     pub used: u8,
     pub name: u64,
     pub master: u64,
@@ -43,17 +46,19 @@ pub struct Client {
 pub enum Test {
     // A client is attached that last reported something else than disabled.
     Awake,
+    // A client is enabled.
+    Enabled,
     // A client of this NAME is attached.
     Named(u64),
-    // An enabled client last reported something else than this; with DISABLED: a client is enabled.
+    // An enabled client last reported something else than this.
     Other(u8),
 }
 
-pub fn blank_slot() -> Slot
+pub fn blank_slot() -> Client
     ensures { λ r. ⌜ r ≡ blankSlot ⌝ }
 {
     let profile = blank_profile();
-    Slot {
+    Client {
         taken: 0,
         wanted: 0,
         report: DISABLED,
@@ -63,10 +68,10 @@ pub fn blank_slot() -> Slot
 }
 
 // The slot of a client that has just been attached.
-pub fn attached(name: u64, profile: Profile) -> Slot
+pub fn attached(name: u64, profile: Profile) -> Client
     ensures { λ r. ⌜ r ≡ attached name profile ⌝ }
 {
-    Slot {
+    Client {
         taken: 1,
         wanted: 0,
         report: DISABLED,
@@ -75,12 +80,12 @@ pub fn attached(name: u64, profile: Profile) -> Slot
     }
 }
 
-pub fn blank_client() -> Client
-    ensures { λ r. ⌜ r ≡ blankClient ⌝ }
+pub fn blank_record() -> ClientRecord
+    ensures { λ r. ⌜ r ≡ blankRecord ⌝ }
 {
     let version = blank();
     let configuration = blank();
-    Client {
+    ClientRecord {
         used: 0,
         name: 0,
         master: 0,
@@ -89,7 +94,7 @@ pub fn blank_client() -> Client
     }
 }
 
-impl Slot {
+impl Client {
     pub fn is_taken(self) -> bool
         ensures { λ r. ⌜ r ≡ isTaken self ⌝ }
     {
@@ -125,19 +130,20 @@ impl Slot {
     {
         match test {
             Test::Awake => self.is_awake(),
+            Test::Enabled => self.is_enabled(),
             Test::Named(name) => self.is_named(name),
             Test::Other(report) => self.is_other(report),
         }
     }
 
-    pub fn with_wanted(mut self, wanted: u8) -> Slot
+    pub fn with_wanted(mut self, wanted: u8) -> Client
         ensures { λ r. ⌜ r ≡ withWanted self wanted ⌝ }
     {
         self.wanted = wanted;
         self
     }
 
-    pub fn with_report(mut self, report: u8) -> Slot
+    pub fn with_report(mut self, report: u8) -> Client
         ensures { λ r. ⌜ r ≡ withReport self report ⌝ }
     {
         self.report = report;
@@ -145,13 +151,13 @@ impl Slot {
     }
 
     // The client's record in a sequence.
-    pub fn client(self) -> Client
-        ensures { λ r. ⌜ r ≡ clientOf self ⌝ }
+    pub fn kept_record(self) -> ClientRecord
+        ensures { λ r. ⌜ r ≡ recordOf self ⌝ }
     {
         let profile = self.profile;
         let version = profile.version;
         let configuration = profile.configuration;
-        Client {
+        ClientRecord {
             used: 1,
             name: self.name,
             master: profile.master,
@@ -162,11 +168,11 @@ impl Slot {
 }
 
 // Some slot passes the test.
-pub fn some_slot(slots: [Slot; 8], test: Test) -> bool
+pub fn some_slot(slots: [Client; SLOTS], test: Test) -> bool
     ensures { λ r. ⌜ r ≡ some (passes test) slots ⌝ }
 {
     let mut i: usize = 0;
-    while i < 8 {
+    while i < SLOTS {
         if slots[i].passes(test) {
             return true;
         }

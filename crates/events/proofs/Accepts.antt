@@ -1,5 +1,4 @@
 -- The ticks and answers that are never refused: no test of their refusals holds.
--- Assumes nothing.
 use Prim.Native.Nat.{ℕ, zero, suc, _+_, _≤_, _<_}
 use mathlib.Core.Path.{_≡_, refl, ap, _∙_}
 use mathlib.Core.Bool.{Bool, true, false, cond}
@@ -9,8 +8,9 @@ use lib.ListN.{length, take, getD, length-take}
 use lib.Seq.{getD-take}
 use borrow.Author.Tests.{eq-eqb, ne-eqb, lt-leb, le-ltb}
 use Rattle.octets.specs.Pick.{pick}
+use Rattle.octets.specs.Numbers.{completed}
 use Rattle.octets.proofs.Tests.{pick-false}
-use Rattle.client.specs.Clients.{isTaken}
+use Rattle.client.specs.Clients.{slotCount, isTaken}
 use Rattle.arrays.specs.Arrays.{firstFrom}
 use Rattle.sequence.specs.Sequence.{blankStep}
 use Rattle.sequence.specs.declared.Step.{Step}
@@ -24,41 +24,33 @@ use Rattle.playback.specs.Pairs.{pairs}
 use Rattle.playback.specs.Answer.{isAnswerOf, findAnswered, answeredOf}
 use Rattle.playback.proofs.Pairs.{getD-pairs}
 use Rattle.master.specs.declared.Master.{Master}
-use Rattle.master.specs.Numbers.{gives, slotAt}
+use Rattle.master.specs.Call.{refusal, outcomeOf, slotAt}
 use Rattle.master.specs.Messages.{isAnswer, replyIn}
 use Rattle.master.specs.States as state
-use Rattle.master.specs.Playback.{unmatched, answered, answerRefusal, replied, answerOf}
-use Rattle.master.specs.Tick.{tickRefusal, tickOf}
+use Rattle.master.specs.Playback.{unmatched, answerCall}
+use Rattle.master.specs.Tick.{tickCall}
 use Rattle.events.specs.Events.{tick, answer, apply, Given}
-use Rattle.events.specs.Demand1.{MatchesSent, Accepted}
-use Rattle.events.proofs.Shape.{Shaped, given-shaped}
-use Rattle.events.proofs.Numbers.{none-refused}
-
-tick-goes : (m : Master) (mm room : ℕ) → (m .state ≡ state.inactive → ⊥) → 576 ≤ room → mm ≤ 65535 → tickRefusal m mm room ≡ 0
-unfolding pick
-tick-goes m mm room h k l = rw (le-ltb room 576 k, le-ltb 65535 mm l, ne-eqb (m .state) 0 h)
+use Rattle.events.specs.Demand1.{MatchesSent, NeverRefused}
+use Rattle.events.proofs.Choices.{chosen}
+use Rattle.events.proofs.Regular.{Regular, length-steps, given-regular}
 
 ticks :
     (m : Master) (mm : ℕ) (out : List ℕ)
     → (m .state ≡ state.inactive → ⊥) → 576 ≤ length out → mm ≤ 65535
-    → apply m (tick mm out) .number ≡ 0
-unfolding tickOf
-ticks m mm out h k l = rw (none-refused (tickRefusal m mm (length out)) m _ (tick-goes m mm (length out) h k l))
-
-chosen-zero : (b : Bool) (x y : Answered) → x .number ≡ 0 → y .number ≡ 0 → pick b x y .number ≡ 0
-unfolding pick
-chosen-zero true x y h k = h
-chosen-zero false x y h k = k
+    → apply m (tick mm out) .number ≡ completed
+unfolding pick refusal outcomeOf tickCall
+ticks m mm out h k l = rw (le-ltb (length out) 576 k, le-ltb 65535 mm l, ne-eqb (m .state) 0 h)
 
 -- a step that is found gives 0, whatever the answer says
 found-number :
     (p : Playback) (q : Sequence) (slot : ℕ) (r : Reply)
     → findAnswered (q .steps) (p .commands) (p .sent) slot (r .tan) (r .function) (r .state) < 64
-    → answeredOf p q slot r .number ≡ 0
+    → answeredOf p q slot r .number ≡ completed
 unfolding answeredOf
 found-number p q slot r h =
+    let Z : Answered → Type 0 = λ x. x .number ≡ completed in
     rw (pick-false _ _ _ (lt-leb 64 (findAnswered (q .steps) (p .commands) (p .sent) slot (r .tan) (r .function) (r .state)) h))
-    (chosen-zero _ _ _ refl (chosen-zero _ _ _ refl (chosen-zero _ _ _ refl refl)))
+    (chosen Z _ _ _ refl (chosen Z _ _ _ refl (chosen Z _ _ _ refl refl)))
 
 -- ---- the step that is found
 
@@ -82,13 +74,13 @@ in-pairs (x ∷ a) (y ∷ b) (suc i) h k = omega (arith, in-pairs a b i (omega a
 
 -- a playback that calls give has 64 cells in both arrays, and at most 64 steps are sent
 found :
-    (m : Master) (slot : ℕ) (r : Reply) → Shaped m → MatchesSent m slot r
+    (m : Master) (slot : ℕ) (r : Reply) → Regular m → MatchesSent m slot r
     → findAnswered (m .sequence .steps) (m .playback .commands) (m .playback .sent) slot (r .tan) (r .function) (r .state) < 64
 unfolding findAnswered
 found m slot r g h =
-    let few : h .step < 64 = omega (arith, h .sent, g .playback .few) in
-    let in-steps : h .step < length (m .sequence .steps) = omega (arith, few, g .steps) in
-    let in-commands : h .step < length (m .playback .commands) = omega (arith, few, g .playback .cells) in
+    let few : h .step < 64 = omega (arith, h .sent, g .playback .tidy .few) in
+    let in-steps : h .step < length (m .sequence .steps) = omega (arith, few, length-steps (m .sequence) (g .sequence)) in
+    let in-commands : h .step < length (m .playback .commands) = omega (arith, few, g .playback .tidy .cells) in
     let steps : List Step = m .sequence .steps in
     let commands : List Sent = m .playback .commands in
     let p : Step × Sent → Bool = λ x. isAnswerOf slot (r .tan) (r .function) (r .state) (x .0) (x .1) in
@@ -104,21 +96,13 @@ found m slot r g h =
     (ap p at ∙ passes) in
     omega (arith, b, few)
 
-answer-goes :
-    (m : Master) (slot : ℕ) (msg : List ℕ) (room : ℕ)
-    → Given m → m .state ≡ state.playback → 8 ≤ room → isAnswer msg ≡ true → slot < 8 → isTaken (slotAt m slot) ≡ true → MatchesSent m slot (replyIn msg)
-    → answerRefusal m slot msg room ≡ 0
-unfolding pick unmatched
-answer-goes m slot msg room g s k a l t f =
-    rw (le-ltb room 8 k, a, lt-leb 8 slot l, t, s, found-number (m .playback) (m .sequence) slot (replyIn msg) (found m slot (replyIn msg) (given-shaped m g) f))
-
 answers :
     (m : Master) (slot : ℕ) (msg out : List ℕ)
-    → Given m → m .state ≡ state.playback → 8 ≤ length out → isAnswer msg ≡ true → slot < 8 → isTaken (slotAt m slot) ≡ true → MatchesSent m slot (replyIn msg)
-    → apply m (answer slot msg out) .number ≡ 0
-unfolding gives answerOf
+    → Given m → m .state ≡ state.playback → 8 ≤ length out → isAnswer msg ≡ true → slot < slotCount → isTaken (slotAt m slot) ≡ true → MatchesSent m slot (replyIn msg)
+    → apply m (answer slot msg out) .number ≡ completed
+unfolding pick refusal outcomeOf answerCall unmatched
 answers m slot msg out g s k a l t f =
-    rw (none-refused (answerRefusal m slot msg (length out)) m (gives 0 (replied m (answered m slot msg))) (answer-goes m slot msg (length out) g s k a l t f))
+    rw (le-ltb (length out) 8 k, a, lt-leb 8 slot l, t, s, found-number (m .playback) (m .sequence) slot (replyIn msg) (found m slot (replyIn msg) (given-regular m g) f))
 
-pub accepted : Accepted
-accepted = record { ticks = ticks; answers = answers }
+pub never-refused : NeverRefused
+never-refused = record { ticks = ticks; answers = answers }

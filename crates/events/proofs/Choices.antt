@@ -1,5 +1,4 @@
 -- What holds of both sides of a choice holds of the choice.
--- Assumes nothing.
 use mathlib.Core.Path.{_≡_, refl}
 use mathlib.Core.Bool.{Bool, true, false}
 use Rattle.octets.specs.Pick.{pick}
@@ -18,3 +17,7 @@ chosen-by P false x y p q = q refl
 pub either : {Q : Type 0} (b : Bool) → (b ≡ true → Q) → (b ≡ false → Q) → Q
 either true p q = p refl
 either false p q = q refl
+
+pub is-false : (b : Bool) → (b ≡ true → ⊥) → b ≡ false
+is-false true h = absurd (h refl)
+is-false false h = refl

@@ -1,16 +1,15 @@
 -- The examples, closed by computation.
--- Assumes nothing.
-use mathlib.Core.Path.{refl}
-use mathlib.Core.List.{flatMap}
+use mathlib.Core.Path.{_≡_, refl}
+use mathlib.Core.List.{map, flatMap}
 use Rattle.octets.specs.Pick.{pick}
 use Rattle.octets.specs.Bits.{hasBit, withBit}
 use Rattle.octets.specs.Octets as octets
 use Rattle.octets.specs.Label.{labelAt}
 use Rattle.arrays.specs.Arrays.{more}
-use Rattle.pool.specs.Verdicts.{first, firstFault}
-use Rattle.pool.specs.Fields.{fixedOf, restAt, headAt, placesF, placesFrom, numbersAt}
-use Rattle.pool.specs.StageOne.{restCode, labelCode, codeAt, nameAt, stageOne}
-use Rattle.pool.specs.StageTwo.{find, isObject, objectOf, idOf, isIn, firstRepeat, repeatFault, numbersFault, labelFault, absentFault, idsFault, statesFault, functionsFault, statesFaults, listsFault, baseFault, judged, stageTwo}
+use Rattle.pool.specs.Verdicts.{first, firstOf}
+use Rattle.pool.specs.Fields.{headAt, fixedOf, restAt, placesF, placesFrom, numbersAt}
+use Rattle.pool.specs.StageOne.{codeOf, faultsAt, nameAt, stageOne}
+use Rattle.pool.specs.StageTwo.{find, isObject, objectOf, idOf, isIn, firstRepeat, repeatFault, absentFault, idsFault, statesAbsent, statesAlike, rulesOf, stageTwo}
 use Rattle.pool.specs.Pool.{verdictOf}
 use Rattle.profile.specs.Profile as profile
 use Rattle.message.specs.Fields.{statusFrom, packed}
@@ -18,7 +17,7 @@ use Rattle.message.specs.Layout.{fromClient, fromMaster, layoutOf}
 use Rattle.message.specs.Messages.{readOf}
 use Rattle.flat.specs.Flat.{readingOf}
 use Rattle.client.specs.Clients.{blankSlot}
-use Rattle.client.specs.Records.{blankClient, clientOf}
+use Rattle.client.specs.Records.{blankRecord, recordOf}
 use Rattle.sequence.specs.Sequence.{blankSequence, stepsOf}
 use Rattle.recording.specs.State.{blankRecording}
 use Rattle.recording.specs.Indication as indication
@@ -27,79 +26,32 @@ use Rattle.playback.specs.State.{blankPlayback}
 use Rattle.playback.specs.Tick as tick
 use Rattle.playback.specs.Answer as answer
 use Rattle.playback.specs.Verification as verification
-use Rattle.master.specs.Numbers.{gives}
-use Rattle.master.specs.States.{newMaster, ended, settled, brokenOff}
-use Rattle.master.specs.Clients.{onOf, offOf, attachOf, wantOf, reportFrom, unexpected, reported, reportOf, lost, lostOf}
+use Rattle.master.specs.Call.{refusal, outcomeOf}
+use Rattle.master.specs.States.{newMaster, ended, settled}
+use Rattle.master.specs.Clients.{awake, unfit, onCall, offCall, attachCall, wantCall, reportFrom, unexpected, endOf, followed, reportedSlot, reported, reportCall, lostCall}
+use Rattle.master.specs.Clients as clients
 use Rattle.master.specs.Recording as recording
 use Rattle.master.specs.Playback as playback
 use Rattle.master.specs.Tick as ticks
-use Rattle.events.specs.Examples.{Examples}
+use Rattle.master.specs.declared.Master.{Master}
+use Rattle.events.specs.Events.{Event, on, off, «record», stop, cancel, start, abort, attach, enable, disable, report, lost, indication, clientAbort, tick, answer, callOf}
+use Rattle.events.specs.Examples.{numberAfter, examplesOf}
 
-pub examples : Examples
-unfolding flatMap pick hasBit withBit octets.numberAt labelAt more first firstFault fixedOf restAt headAt placesF placesFrom numbersAt restCode labelCode codeAt nameAt stageOne find isObject objectOf idOf isIn firstRepeat repeatFault numbersFault labelFault absentFault idsFault statesFault functionsFault statesFaults listsFault baseFault judged stageTwo verdictOf profile.triggerIn profile.statesIn profile.bitsOf profile.tableOf profile.keptAt profile.keptOf profile.blankProfile statusFrom packed fromClient fromMaster layoutOf readOf readingOf blankSlot blankClient clientOf blankSequence stepsOf blankRecording indication.countedOf indication.hasOpen indication.placeOf indication.againError indication.stepAfter indication.heardAgain indication.firstError indication.firstValue indication.newStep indication.clientsAfter indication.withNew indication.heardFirst indication.heardOf kept.recordOf kept.keptOf blankPlayback tick.countedOf tick.someLate tick.doesStop tick.doesLeave tick.nextTan tick.leftOf tick.tickOf answer.findAnswered answer.markOf answer.withAnswer answer.someUndone answer.isAllDone answer.answeredOf verification.firstFailing verification.sameLabel verification.labelsAgree verification.isListed verification.isInPool verification.ofSequence verification.clientChecks verification.stepChecks verification.readyChecks verification.checksOf verification.verifyOf gives newMaster ended settled brokenOff onOf offOf attachOf wantOf reportFrom unexpected reported reportOf lost lostOf recording.recordOf recording.finished recording.stopOf recording.cancelOf recording.untimely recording.recorded recording.interrupted recording.heard recording.indicationOf playback.startOf playback.abortOf playback.unheeded playback.clientAbortOf playback.unmatched playback.replied playback.answerOf ticks.recordingTicked ticks.playbackTicked ticks.ticked ticks.tickOf
-examples = record {
-  on-0 = refl;
-  on-2 = refl;
-  off-0 = refl;
-  off-2 = refl;
-  off-13 = refl;
-  record-0 = refl;
-  record-2 = refl;
-  record-14 = refl;
-  record-12 = refl;
-  stop-0 = refl;
-  stop-2 = refl;
-  cancel-0 = refl;
-  cancel-2 = refl;
-  start-0 = refl;
-  start-2 = refl;
-  start-7 = refl;
-  start-8 = refl;
-  start-9 = refl;
-  start-10 = refl;
-  start-11 = refl;
-  start-12 = refl;
-  abort-0 = refl;
-  abort-2 = refl;
-  attach-0 = refl;
-  attach-3 = refl;
-  attach-2 = refl;
-  attach-6 = refl;
-  enable-0 = refl;
-  enable-1 = refl;
-  enable-3 = refl;
-  enable-2 = refl;
-  disable-0 = refl;
-  disable-1 = refl;
-  disable-3 = refl;
-  disable-2 = refl;
-  report-0 = refl;
-  report-4 = refl;
-  report-3 = refl;
-  report-2 = refl;
-  report-5 = refl;
-  lost-0 = refl;
-  lost-3 = refl;
-  lost-2 = refl;
-  indication-0 = refl;
-  indication-1 = refl;
-  indication-4 = refl;
-  indication-3 = refl;
-  indication-2 = refl;
-  indication-5 = refl;
-  clientAbort-0 = refl;
-  clientAbort-4 = refl;
-  clientAbort-3 = refl;
-  clientAbort-2 = refl;
-  clientAbort-5 = refl;
-  tick-0 = refl;
-  tick-1 = refl;
-  tick-4 = refl;
-  tick-2 = refl;
-  answer-0 = refl;
-  answer-1 = refl;
-  answer-4 = refl;
-  answer-3 = refl;
-  answer-2 = refl;
-  answer-15 = refl;
-}
+pub reached : (m : Master) (e : Event) → map numberAfter (examplesOf e) ≡ callOf m e .numbers
+unfolding flatMap pick hasBit withBit octets.numberAt labelAt more first firstOf headAt fixedOf restAt placesF placesFrom numbersAt codeOf faultsAt nameAt stageOne find isObject objectOf idOf isIn firstRepeat repeatFault absentFault idsFault statesAbsent statesAlike rulesOf stageTwo verdictOf profile.triggerIn profile.statesIn profile.bitsOf profile.tableOf profile.keptAt profile.keptOfPool profile.blankProfile statusFrom packed fromClient fromMaster layoutOf readOf readingOf blankSlot blankRecord recordOf blankSequence stepsOf blankRecording indication.countedRecording indication.hasOpen indication.placeOf indication.againError indication.stepAfter indication.heardAgain indication.errorBy indication.firstError indication.firstValue indication.newStep indication.recordsAfter indication.withNew indication.heardFirst indication.heardOf kept.recordKept kept.keptSequence blankPlayback tick.countedPlayback tick.someLate tick.doesStop tick.doesLeave tick.nextTan tick.afterLeaving tick.tickOf answer.findAnswered answer.answerFrom answer.withAnswer answer.someUndone answer.isAllDone answer.answeredOf verification.firstFailing verification.sameLabel verification.labelsAgree verification.isListed verification.isInPool verification.ofSequence verification.clientChecks verification.stepChecks verification.readyChecks verification.checksOf verification.verifyOf refusal outcomeOf newMaster ended settled endOf followed reportedSlot awake unfit onCall offCall attachCall wantCall reportFrom unexpected reported reportCall clients.lost lostCall recording.unready recording.recordCall recording.recordingEnded recording.stopped recording.stopCall recording.cancelCall recording.untimely recording.recorded recording.interrupted recording.heard recording.indicationCall playback.startCall playback.abortCall playback.unheeded playback.clientAbortCall playback.unmatched playback.replied playback.answerCall ticks.recordingTicked ticks.playbackTicked ticks.ticked ticks.tickCall
+reached m on = refl
+reached m off = refl
+reached m «record» = refl
+reached m stop = refl
+reached m cancel = refl
+reached m start = refl
+reached m abort = refl
+reached m (attach slot name pool) = refl
+reached m (enable slot out) = refl
+reached m (disable slot out) = refl
+reached m (report slot number) = refl
+reached m (lost slot) = refl
+reached m (indication slot msg out) = refl
+reached m (clientAbort slot msg) = refl
+reached m (tick mm out) = refl
+reached m (answer slot msg out) = refl

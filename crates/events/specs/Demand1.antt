@@ -1,87 +1,40 @@
 -- 01, "Numbers a call gives back" and "How far each promise goes": what holds of every event, over the definitions that the contracts cite.
--- Assumes nothing: these are statements.
 use Prim.Native.Nat.{ℕ, _+_, _*_, _≤_, _<_}
 use mathlib.Core.Path.{_≡_}
 use mathlib.Core.Bool.{Bool, true}
-use mathlib.Core.List.{List, [], _∷_}
+use mathlib.Core.List.{List, [], _∷_, map}
 use lib.Dec.{eqb}
 use lib.ListN.{length, getD}
-use Rattle.arrays.specs.Arrays.{some, more}
-use Rattle.client.specs.Clients.{isTaken}
-use Rattle.sequence.specs.Sequence.{blankStep}
-use Rattle.playback.specs.State.{blankSent}
-use Rattle.playback.specs.Verification.{checksOf}
-use Rattle.playback.specs.Promises.{EveryHolds, FirstFails}
+use Rattle.octets.specs.Numbers.{completed, tooShort, wrongState, wrongSlot, wrongValue, noMatch}
+use Rattle.arrays.specs.{Arrays.some, Arrays.more, Every.Every}
+use Rattle.client.specs.Clients.{slotCount, isTaken, blankSlot}
+use Rattle.sequence.specs.Sequence.{mostSteps, lastTick, blankStep, lengthOf, stepsOf}
+use Rattle.recording.specs.Indication.{heldOf}
+use Rattle.playback.specs.{State.blankSent, Promises.EveryHolds, Promises.FirstFails}
+use Rattle.playback.specs.Verification.{isListed, isInPool, checksOf}
 use Rattle.message.specs.declared.Reply.{Reply}
-use Rattle.master.specs.declared.Master.{Master}
-use Rattle.master.specs.declared.Outcome.{Outcome}
-use Rattle.master.specs.Numbers.{slotAt}
-use Rattle.master.specs.Messages.{isAnswer, replyIn}
+use Rattle.master.specs.{declared.Master.Master, declared.Outcome.Outcome, Call.slotAt, Messages.isAnswer, Messages.replyIn}
 use Rattle.master.specs.States as state
-use Rattle.events.specs.Events.{Event, on, off, «record», stop, cancel, start, abort, attach, enable, disable, report, lost, indication, clientAbort, tick, answer, apply, lent, left, run, Given}
+use Rattle.events.specs.Events.{Event, on, start, tick, answer, callOf, apply, lent, lentAfter, Given}
+use Rattle.events.specs.Examples.{numberAfter, examplesOf}
 
 -- ---- "Every number but 0 leaves the state and all lent memory unchanged."
 
 abbrev pub RefusedSame : Type 0
-RefusedSame = (m : Master) (e : Event) → (apply m e .number ≡ 0 → ⊥) → (apply m e .master ≡ m) × (left m e ≡ lent e)
+RefusedSame = (m : Master) (e : Event) → (apply m e .number ≡ completed → ⊥) → (apply m e .master ≡ m) × (lentAfter m e ≡ lent m e)
 
 -- ---- "A call is refused only where the table or a rule names the number"
-
--- the numbers that a call can give
-abbrev pub numbersOf : Event → List ℕ
-numbersOf on = 0 ∷ 2 ∷ []
-numbersOf off = 0 ∷ 2 ∷ 13 ∷ []
-numbersOf «record» = 0 ∷ 2 ∷ 14 ∷ 12 ∷ []
-numbersOf stop = 0 ∷ 2 ∷ []
-numbersOf cancel = 0 ∷ 2 ∷ []
-numbersOf start = 0 ∷ 2 ∷ 7 ∷ 8 ∷ 9 ∷ 10 ∷ 11 ∷ 12 ∷ []
-numbersOf abort = 0 ∷ 2 ∷ []
-numbersOf (attach slot name pool) = 0 ∷ 3 ∷ 2 ∷ 6 ∷ []
-numbersOf (enable slot out) = 0 ∷ 1 ∷ 3 ∷ 2 ∷ []
-numbersOf (disable slot out) = 0 ∷ 1 ∷ 3 ∷ 2 ∷ []
-numbersOf (report slot number) = 0 ∷ 4 ∷ 3 ∷ 2 ∷ 5 ∷ []
-numbersOf (lost slot) = 0 ∷ 3 ∷ 2 ∷ []
-numbersOf (indication slot msg out) = 0 ∷ 1 ∷ 4 ∷ 3 ∷ 2 ∷ 5 ∷ []
-numbersOf (clientAbort slot msg) = 0 ∷ 4 ∷ 3 ∷ 2 ∷ 5 ∷ []
-numbersOf (tick mm out) = 0 ∷ 1 ∷ 4 ∷ 2 ∷ []
-numbersOf (answer slot msg out) = 0 ∷ 1 ∷ 4 ∷ 3 ∷ 2 ∷ 15 ∷ []
 
 abbrev pub isAmong : ℕ → List ℕ → Bool
 isAmong n l = some (eqb n) l
 
--- the call, whatever its inputs
-abbrev pub callOf : Event → ℕ
-callOf on = 0
-callOf off = 1
-callOf «record» = 2
-callOf stop = 3
-callOf cancel = 4
-callOf start = 5
-callOf abort = 6
-callOf (attach slot name pool) = 7
-callOf (enable slot out) = 8
-callOf (disable slot out) = 9
-callOf (report slot number) = 10
-callOf (lost slot) = 11
-callOf (indication slot msg out) = 12
-callOf (clientAbort slot msg) = 13
-callOf (tick mm out) = 14
-callOf (answer slot msg out) = 15
-
--- the number is given by this call, with some inputs, after some calls
-pub record Reached (e : Event) (number : ℕ) : Type 0 where
-  pub calls : List Event
-  pub event : Event
-  pub same-call : callOf event ≡ callOf e
-  pub gives : apply (run calls) event .number ≡ number
-
 pub record InTable : Type 0 where
-  -- a call gives no number but those of its row
-  pub call : (m : Master) (e : Event) → isAmong (apply m e .number) (numbersOf e) ≡ true
-  -- and each of them
-  pub reached : (e : Event) (number : ℕ) → isAmong number (numbersOf e) ≡ true → Reached e number
+  -- a call gives no number but those that its record names
+  pub call : (m : Master) (e : Event) → isAmong (apply m e .number) (callOf m e .numbers) ≡ true
+  -- and each of them, in some example
+  pub reached : (m : Master) (e : Event) → map numberAfter (examplesOf e) ≡ callOf m e .numbers
   -- all are numbers of 01's table
-  pub table : (m : Master) (e : Event) → apply m e .number ≤ 15
+  pub table : (m : Master) (e : Event) → apply m e .number ≤ noMatch
 
 -- ---- "in an active state every tick with at least 576 bytes lent and its millimetres in range is accepted, and in playback every answer that matches a
 -- sent step"
@@ -95,20 +48,20 @@ pub record MatchesSent (m : Master) (slot : ℕ) (r : Reply) : Type 0 where
   pub function-matches : getD (m .sequence .steps) step blankStep .function ≡ r .function
   pub state-matches : getD (m .sequence .steps) step blankStep .state ≡ r .state
 
-pub record Accepted : Type 0 where
+pub record NeverRefused : Type 0 where
   pub ticks :
       (m : Master) (mm : ℕ) (out : List ℕ)
       → (m .state ≡ state.inactive → ⊥) → 576 ≤ length out → mm ≤ 65535
-      → apply m (tick mm out) .number ≡ 0
+      → apply m (tick mm out) .number ≡ completed
   pub answers :
       (m : Master) (slot : ℕ) (msg out : List ℕ)
-      → Given m → m .state ≡ state.playback → 8 ≤ length out → isAnswer msg ≡ true → slot < 8 → isTaken (slotAt m slot) ≡ true → MatchesSent m slot (replyIn msg)
-      → apply m (answer slot msg out) .number ≡ 0
+      → Given m → m .state ≡ state.playback → 8 ≤ length out → isAnswer msg ≡ true → slot < slotCount → isTaken (slotAt m slot) ≡ true → MatchesSent m slot (replyIn msg)
+      → apply m (answer slot msg out) .number ≡ completed
 
 -- ---- "While the master is inactive, every call on it but "on" gives 2, unless 1, 4 or 3 comes first."
 
 abbrev pub whileInactive : List ℕ
-whileInactive = 1 ∷ 4 ∷ 3 ∷ 2 ∷ []
+whileInactive = tooShort ∷ wrongValue ∷ wrongSlot ∷ wrongState ∷ []
 
 abbrev pub Inactive : Type 0
 Inactive =
@@ -118,7 +71,7 @@ Inactive =
 
 -- what a call's contract allows: its result, with the new state, and each lent byte after it
 abbrev pub Allowed : Master → Event → Outcome × List ℕ → Type 0
-Allowed m e r = (r .0 ≡ apply m e) × (r .1 ≡ left m e)
+Allowed m e r = (r .0 ≡ apply m e) × (r .1 ≡ lentAfter m e)
 
 abbrev pub Determined : Type 0
 Determined = (m : Master) (e : Event) (r r′ : Outcome × List ℕ) → Allowed m e r → Allowed m e r′ → r ≡ r′
@@ -128,22 +81,22 @@ Determined = (m : Master) (e : Event) (r r′ : Outcome × List ℕ) → Allowed
 
 pub record StartExactly : Type 0 where
   -- it starts when the master is ready and every check holds
-  pub starts : (m : Master) → m .state ≡ state.ready → EveryHolds (checksOf (m .slots) (m .sequence)) → apply m start .number ≡ 0
+  pub starts : (m : Master) → m .state ≡ state.ready → EveryHolds (checksOf (m .slots) (m .sequence)) → apply m start .number ≡ completed
   -- and only then
-  pub only : (m : Master) → apply m start .number ≡ 0 → (m .state ≡ state.ready) × EveryHolds (checksOf (m .slots) (m .sequence))
+  pub only : (m : Master) → apply m start .number ≡ completed → (m .state ≡ state.ready) × EveryHolds (checksOf (m .slots) (m .sequence))
   -- the master is in playback then
-  pub playing : (m : Master) → apply m start .number ≡ 0 → apply m start .master .state ≡ state.playback
+  pub playing : (m : Master) → apply m start .number ≡ completed → apply m start .master .state ≡ state.playback
   -- otherwise 2 outside ready, and in ready the number of the first check that does not hold
-  pub barred : (m : Master) → (m .state ≡ state.ready → ⊥) → apply m start .number ≡ 2
+  pub barred : (m : Master) → (m .state ≡ state.ready → ⊥) → apply m start .number ≡ wrongState
   pub names :
-      (m : Master) → m .state ≡ state.ready → (apply m start .number ≡ 0 → ⊥)
+      (m : Master) → m .state ≡ state.ready → (apply m start .number ≡ completed → ⊥)
       → FirstFails (checksOf (m .slots) (m .sequence)) (apply m start .number)
 
 -- ---- what is counted is never cut short: a count of 32 bits would stop at 4,294,967,295
 
 -- below tick 36,000, and at most 65,535 mm a tick
 abbrev pub Counted : ℕ → ℕ → Type 0
-Counted ticks distance = (ticks < 36000) × (distance ≤ ticks * 65535)
+Counted ticks distance = (ticks < lastTick) × (distance ≤ ticks * 65535)
 
 pub record NeverCut : Type 0 where
   -- on every master that calls give
@@ -151,3 +104,21 @@ pub record NeverCut : Type 0 where
   pub playback : (m : Master) → Given m → Counted (m .playback .ticks) (m .playback .distance)
   -- so a tick adds exactly 1 and its millimetres
   pub adds : (ticks distance mm : ℕ) → Counted ticks distance → mm ≤ 65535 → (more ticks 1 ≡ ticks + 1) × (more distance mm ≡ distance + mm)
+
+-- ---- what definitions guard against and 01 does not name, such as a slot above 7 in a step: it is so on no master that calls give
+
+pub record Bounded (m : Master) : Type 0 where
+  pub slots : Every (λ s. s .slot < slotCount) (stepsOf (m .sequence))
+  pub held-slots : Every (λ t. t .step .slot < slotCount) (heldOf (m .recording))
+  pub steps : m .sequence .count ≤ mostSteps
+  pub held : m .recording .count ≤ mostSteps
+  -- no more steps have left than there are
+  pub sent : m .playback .sent ≤ m .sequence .count
+  pub state : m .state ≤ state.abort
+  pub tan : m .tan ≤ 255
+  -- so the tests against these bounds decide nothing: all steps count, and each is looked up in its client's pool
+  pub counted : lengthOf (m .sequence) ≡ m .sequence .count
+  pub looked-up : Every (λ s. isInPool (m .slots) s ≡ isListed (getD (m .slots) (s .slot) blankSlot .profile) (s .function) (s .state)) (stepsOf (m .sequence))
+
+abbrev pub NeverBites : Type 0
+NeverBites = (m : Master) → Given m → Bounded m

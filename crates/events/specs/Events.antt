@@ -1,16 +1,12 @@
 -- Everything that can happen to a master: each call with its inputs, what it gives back, the bytes lent to it, and the master after any calls.
--- Assumes nothing: these are definitions.
-use Prim.Native.Nat.{ℕ}
+use Prim.Native.Nat.{ℕ, _+_}
 use mathlib.Core.Path.{_≡_}
 use mathlib.Core.List.{List, [], _∷_}
-use lib.ListN.{length}
-use Rattle.master.specs.declared.Master.{Master}
-use Rattle.master.specs.declared.Outcome.{Outcome}
-use Rattle.master.specs.States.{newMaster}
-use Rattle.master.specs.Clients.{onOf, offOf, attachOf, wantOf, wantOut, reportOf, lostOf}
-use Rattle.master.specs.Recording.{recordOf, stopOf, cancelOf, indicationOf, indicationOut}
-use Rattle.master.specs.Playback.{startOf, abortOf, clientAbortOf, answerOf, answerOut}
-use Rattle.master.specs.Tick.{tickOf, tickOut}
+use Rattle.master.specs.{declared.Master.Master, declared.Outcome.Outcome, States.newMaster, Tick.tickCall}
+use Rattle.master.specs.Call.{Call, outcomeOf, leavesOf}
+use Rattle.master.specs.Clients.{onCall, offCall, attachCall, wantCall, reportCall, lostCall}
+use Rattle.master.specs.Recording.{recordCall, stopCall, cancelCall, indicationCall}
+use Rattle.master.specs.Playback.{startCall, abortCall, clientAbortCall, answerCall}
 
 -- a call and its inputs. attach: slot, NAME, pool; enable, disable: slot, lent bytes; report: slot, number; lost: slot; indication (E.4) and answer
 -- (E.7): slot, message, lent bytes; clientAbort (E.3): slot, message; tick: millimetres, lent bytes
@@ -25,62 +21,73 @@ pub data Event : Type 0 where
   tick : ℕ → List ℕ → Event
   answer : ℕ → List ℕ → List ℕ → Event
 
--- what the call gives back, as its contract says
+-- the call, as its contract has it
+abbrev pub callOf : Master → Event → Call
+callOf m on = onCall m
+callOf m off = offCall m
+callOf m «record» = recordCall m
+callOf m stop = stopCall m
+callOf m cancel = cancelCall m
+callOf m start = startCall m
+callOf m abort = abortCall m
+callOf m (attach slot name pool) = attachCall m slot name pool
+callOf m (enable slot out) = wantCall 1 m slot out
+callOf m (disable slot out) = wantCall 0 m slot out
+callOf m (report slot number) = reportCall m slot number
+callOf m (lost slot) = lostCall m slot
+callOf m (indication slot msg out) = indicationCall m slot msg out
+callOf m (clientAbort slot msg) = clientAbortCall m slot msg
+callOf m (tick mm out) = tickCall m mm out
+callOf m (answer slot msg out) = answerCall m slot msg out
+
+-- which call it is: one that a recording or a playback takes something from, or any other, with a number of its own
+pub data Sort : Event → Type 0 where
+  stops : Sort stop
+  hears : (slot : ℕ) (msg out : List ℕ) → Sort (indication slot msg out)
+  ticks : (mm : ℕ) (out : List ℕ) → Sort (tick mm out)
+  answers : (slot : ℕ) (msg out : List ℕ) → Sort (answer slot msg out)
+  other : {e : Event} → ℕ → Sort e
+
+abbrev pub sortOf : (e : Event) → Sort e
+sortOf on = other 0
+sortOf off = other 1
+sortOf «record» = other 2
+sortOf stop = stops
+sortOf cancel = other 3
+sortOf start = other 4
+sortOf abort = other 5
+sortOf (attach slot name pool) = other 6
+sortOf (enable slot out) = other 7
+sortOf (disable slot out) = other 8
+sortOf (report slot number) = other 9
+sortOf (lost slot) = other 10
+sortOf (indication slot msg out) = hears slot msg out
+sortOf (clientAbort slot msg) = other 11
+sortOf (tick mm out) = ticks mm out
+sortOf (answer slot msg out) = answers slot msg out
+
+-- the call's number, whatever its inputs
+abbrev pub numberBy : {e : Event} → Sort e → ℕ
+numberBy stops = 0
+numberBy (hears slot msg out) = 1
+numberBy (ticks mm out) = 2
+numberBy (answers slot msg out) = 3
+numberBy (other n) = 4 + n
+
+abbrev pub whichCall : Event → ℕ
+whichCall e = numberBy (sortOf e)
+
+-- what it gives back
 abbrev pub apply : Master → Event → Outcome
-apply m on = onOf m
-apply m off = offOf m
-apply m «record» = recordOf m
-apply m stop = stopOf m
-apply m cancel = cancelOf m
-apply m start = startOf m
-apply m abort = abortOf m
-apply m (attach slot name pool) = attachOf m slot name pool
-apply m (enable slot out) = wantOf 1 m slot (length out)
-apply m (disable slot out) = wantOf 0 m slot (length out)
-apply m (report slot number) = reportOf m slot number
-apply m (lost slot) = lostOf m slot
-apply m (indication slot msg out) = indicationOf m slot msg (length out)
-apply m (clientAbort slot msg) = clientAbortOf m slot msg
-apply m (tick mm out) = tickOf m mm (length out)
-apply m (answer slot msg out) = answerOf m slot msg (length out)
+apply m e = outcomeOf m (callOf m e)
 
--- the bytes lent to the call to write in; most calls are lent none
-abbrev pub lent : Event → List ℕ
-lent on = []
-lent off = []
-lent «record» = []
-lent stop = []
-lent cancel = []
-lent start = []
-lent abort = []
-lent (attach slot name pool) = []
-lent (enable slot out) = out
-lent (disable slot out) = out
-lent (report slot number) = []
-lent (lost slot) = []
-lent (indication slot msg out) = out
-lent (clientAbort slot msg) = []
-lent (tick mm out) = out
-lent (answer slot msg out) = out
+-- the bytes lent to it to write in; most calls are lent none
+abbrev pub lent : Master → Event → List ℕ
+lent m e = callOf m e .lent
 
--- the same bytes after the call, as its contract says
-abbrev pub left : Master → Event → List ℕ
-left m on = []
-left m off = []
-left m «record» = []
-left m stop = []
-left m cancel = []
-left m start = []
-left m abort = []
-left m (attach slot name pool) = []
-left m (enable slot out) = wantOut 1 m slot out
-left m (disable slot out) = wantOut 0 m slot out
-left m (report slot number) = []
-left m (lost slot) = []
-left m (indication slot msg out) = indicationOut m slot msg out
-left m (clientAbort slot msg) = []
-left m (tick mm out) = tickOut m mm out
-left m (answer slot msg out) = answerOut m slot msg out
+-- the same bytes after it
+abbrev pub lentAfter : Master → Event → List ℕ
+lentAfter m e = leavesOf (callOf m e)
 
 -- the master after these calls, one after the other
 abbrev pub runFrom : Master → List Event → Master

@@ -1,15 +1,14 @@
 -- A message made flat and back is the same message.
--- Assumes nothing.
 use mathlib.Core.Path.{_≡_, refl}
 use Rattle.octets.specs.Pick.{pick}
-use Rattle.message.specs.Fields.{numberOf, statusFrom}
+use Rattle.message.specs.Fields.{statusNumber, statusFrom}
 use Rattle.message.specs.declared.Status.{Status}
 use Rattle.message.specs.declared.Status.the-variants.{AtOnce, Started, Done, Failed}
 use Rattle.message.specs.declared.Message.{Message}
 use Rattle.message.specs.declared.Message.the-variants.{Nothing, CapabilityRequest, CapabilityResponse, MemoryRequest, MemoryResponse, VersionRequest, VersionResponse, ConfigurationRequest, ConfigurationResponse, Transfer, TransferResponse, ActivationCommand, PoolAcknowledgement, DeleteCommand, DeleteResponse, StoreCommand, StoreResponse, LoadCommand, LoadResponse, StateCommand, ClientAbort, Indication, IndicationResponse, Command, Answer, AnswerAcknowledgement}
 use Rattle.flat.specs.Flat.{stated, messageFrom, BackAgain}
 
-status-back : (t : Status) (m : Status → Message) → stated (numberOf t) (m (statusFrom (numberOf t))) ≡ m t
+status-back : (t : Status) (m : Status → Message) → stated (statusNumber t) (m (statusFrom (statusNumber t))) ≡ m t
 unfolding pick statusFrom
 status-back AtOnce m = refl
 status-back Started m = refl

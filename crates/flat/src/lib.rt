@@ -2,8 +2,8 @@
 ghost use mathlib.Core.Path.{_≡_};
 ghost use mathlib.Core.List.{[]};
 ghost use lib.ListN.{length};
-ghost use Rattle.message.specs.Messages.{writtenOf, leftOf};
-ghost use Rattle.flat.specs.Flat.{numbers, capable, executed, replied, stated, executionFrom, replyFrom, receiptFrom, flatOf, messageFrom, readingOf, BackAgain};
+ghost use Rattle.message.specs.Messages.{writtenOf, writtenOver};
+ghost use Rattle.flat.specs.Flat.{kindOf, bareFlat, executionStep, replyStep, orderStep, receiptStep, flatOf, stated, executionFrom, replyFrom, receiptFrom, messageFrom, readingOf, BackAgain};
 use message::Capability;
 use message::Execution;
 use message::Message;
@@ -11,13 +11,15 @@ use message::Order;
 use message::Receipt;
 use message::Reply;
 use message::Written;
-use message::fields::number_of;
 use message::fields::status_from;
+use message::fields::status_number;
 use octets::label::Label;
+
+pub mod kinds;
 
 // E.4 to E.8. A message that lacks one of the fields has 0 there, and it is not looked at.
 #[repr(C)]
-pub struct Step {
+pub struct MessageStep {
     pub function: u8,
     pub state: u8,
     pub status: u8,
@@ -28,7 +30,7 @@ pub struct Step {
 
 #[repr(C)]
 pub struct Flat {
-    // 0 none, 1 to 25 the messages C.2 to E.8 in the order of the clauses.
+    // As module kinds has it.
     pub kind: u8,
     // C.2 version; C.5 status; D.3, D.5, D.7, D.11, D.13, D.15 and E.3 error; D.9 code; D.10 memory; E.2 state.
     pub code: u8,
@@ -41,7 +43,7 @@ pub struct Flat {
     // C.3.
     pub capability: Capability,
     // E.4 to E.8.
-    pub step: Step,
+    pub step: MessageStep,
     // D.3 and D.5.
     pub label: Label,
 }
@@ -52,9 +54,42 @@ pub struct FlatReading {
     pub message: Flat,
 }
 
-// A message of at most two numbers.
-fn numbers(kind: u8, code: u8, reason: u8, object: u16, memory: u32, label: Label) -> Flat
-    ensures { λ r. ⌜ r ≡ numbers kind code reason object memory label ⌝ }
+fn kind_of(message: Message) -> u8
+    ensures { λ r. ⌜ r ≡ kindOf message ⌝ }
+{
+    match message {
+        Message::Nothing => kinds::NOTHING,
+        Message::CapabilityRequest(_) => kinds::CAPABILITY_REQUEST,
+        Message::CapabilityResponse(_) => kinds::CAPABILITY_RESPONSE,
+        Message::MemoryRequest(_) => kinds::MEMORY_REQUEST,
+        Message::MemoryResponse(_) => kinds::MEMORY_RESPONSE,
+        Message::VersionRequest => kinds::VERSION_REQUEST,
+        Message::VersionResponse(_) => kinds::VERSION_RESPONSE,
+        Message::ConfigurationRequest => kinds::CONFIGURATION_REQUEST,
+        Message::ConfigurationResponse(_) => kinds::CONFIGURATION_RESPONSE,
+        Message::Transfer => kinds::TRANSFER,
+        Message::TransferResponse(_) => kinds::TRANSFER_RESPONSE,
+        Message::ActivationCommand => kinds::ACTIVATION_COMMAND,
+        Message::PoolAcknowledgement(_, _) => kinds::POOL_ACKNOWLEDGEMENT,
+        Message::DeleteCommand(_) => kinds::DELETE_COMMAND,
+        Message::DeleteResponse(_) => kinds::DELETE_RESPONSE,
+        Message::StoreCommand => kinds::STORE_COMMAND,
+        Message::StoreResponse(_) => kinds::STORE_RESPONSE,
+        Message::LoadCommand => kinds::LOAD_COMMAND,
+        Message::LoadResponse(_) => kinds::LOAD_RESPONSE,
+        Message::StateCommand(_, _) => kinds::STATE_COMMAND,
+        Message::ClientAbort(_) => kinds::CLIENT_ABORT,
+        Message::Indication(_) => kinds::INDICATION,
+        Message::IndicationResponse(_) => kinds::INDICATION_RESPONSE,
+        Message::Command(_) => kinds::COMMAND,
+        Message::Answer(_) => kinds::ANSWER,
+        Message::AnswerAcknowledgement(_) => kinds::ANSWER_ACKNOWLEDGEMENT,
+    }
+}
+
+// A message with no values yet, beside its label.
+fn bare_flat(kind: u8, label: Label) -> Flat
+    ensures { λ r. ⌜ r ≡ bareFlat kind label ⌝ }
 {
     let capability = Capability {
         version: 0,
@@ -66,7 +101,7 @@ fn numbers(kind: u8, code: u8, reason: u8, object: u16, memory: u32, label: Labe
         font: 0,
         style: 0,
     };
-    let step = Step {
+    let step = MessageStep {
         function: 0,
         state: 0,
         status: 0,
@@ -75,128 +110,129 @@ fn numbers(kind: u8, code: u8, reason: u8, object: u16, memory: u32, label: Labe
         value: 0,
     };
     Flat {
-        kind: kind,
-        code: code,
-        reason: reason,
-        object: object,
-        memory: memory,
-        capability: capability,
-        step: step,
-        label: label,
+        kind,
+        code: 0,
+        reason: 0,
+        object: 0,
+        memory: 0,
+        capability,
+        step,
+        label,
     }
 }
 
-// C.3.
-fn capable(capability: Capability, label: Label) -> Flat
-    ensures { λ r. ⌜ r ≡ capable capability label ⌝ }
+// E.4.
+fn execution_step(e: Execution) -> MessageStep
+    ensures { λ x. ⌜ x ≡ executionStep e ⌝ }
 {
-    let mut flat = numbers(2, 0, 0, 0, 0, label);
-    flat.capability = capability;
-    flat
-}
-
-// E.4 to E.8.
-fn executed(kind: u8, step: Step, label: Label) -> Flat
-    ensures { λ r. ⌜ r ≡ executed kind step label ⌝ }
-{
-    let mut flat = numbers(kind, 0, 0, 0, 0, label);
-    flat.step = step;
-    flat
+    let status = e.status;
+    MessageStep {
+        function: e.function,
+        state: e.state,
+        status: status_number(status),
+        error: 0,
+        tan: e.tan,
+        value: e.value,
+    }
 }
 
 // E.5 and E.7.
-fn replied(kind: u8, r: Reply, label: Label) -> Flat
-    ensures { λ f. ⌜ f ≡ replied kind r label ⌝ }
+fn reply_step(r: Reply) -> MessageStep
+    ensures { λ x. ⌜ x ≡ replyStep r ⌝ }
 {
     let status = r.status;
-    let step = Step {
+    MessageStep {
         function: r.function,
         state: r.state,
-        status: number_of(status),
+        status: status_number(status),
         error: r.error,
         tan: r.tan,
         value: 0,
-    };
-    executed(kind, step, label)
+    }
+}
+
+// E.6.
+fn order_step(o: Order) -> MessageStep
+    ensures { λ x. ⌜ x ≡ orderStep o ⌝ }
+{
+    MessageStep {
+        function: o.function,
+        state: o.state,
+        status: 0,
+        error: 0,
+        tan: o.tan,
+        value: o.value,
+    }
+}
+
+// E.8.
+fn receipt_step(r: Receipt) -> MessageStep
+    ensures { λ x. ⌜ x ≡ receiptStep r ⌝ }
+{
+    let status = r.status;
+    MessageStep {
+        function: r.function,
+        state: r.state,
+        status: status_number(status),
+        error: 0,
+        tan: r.tan,
+        value: 0,
+    }
 }
 
 pub fn flat_of(message: Message, label: Label) -> Flat
     ensures { λ r. ⌜ r ≡ flatOf message label ⌝ }
 {
+    let mut flat = bare_flat(kind_of(message), label);
     match message {
-        Message::Nothing => numbers(0, 0, 0, 0, 0, label),
-        Message::CapabilityRequest(version) => numbers(1, version, 0, 0, 0, label),
-        Message::CapabilityResponse(c) => capable(c, label),
-        Message::MemoryRequest(memory) => numbers(3, 0, 0, 0, memory, label),
-        Message::MemoryResponse(status) => numbers(4, status, 0, 0, 0, label),
-        Message::VersionRequest => numbers(5, 0, 0, 0, 0, label),
-        Message::VersionResponse(error) => numbers(6, error, 0, 0, 0, label),
-        Message::ConfigurationRequest => numbers(7, 0, 0, 0, 0, label),
-        Message::ConfigurationResponse(error) => numbers(8, error, 0, 0, 0, label),
-        Message::Transfer => numbers(9, 0, 0, 0, 0, label),
-        Message::TransferResponse(error) => numbers(10, error, 0, 0, 0, label),
-        Message::ActivationCommand => numbers(11, 0, 0, 0, 0, label),
-        Message::PoolAcknowledgement(code, object) => numbers(12, code, 0, object, 0, label),
-        Message::DeleteCommand(memory) => numbers(13, memory, 0, 0, 0, label),
-        Message::DeleteResponse(error) => numbers(14, error, 0, 0, 0, label),
-        Message::StoreCommand => numbers(15, 0, 0, 0, 0, label),
-        Message::StoreResponse(error) => numbers(16, error, 0, 0, 0, label),
-        Message::LoadCommand => numbers(17, 0, 0, 0, 0, label),
-        Message::LoadResponse(error) => numbers(18, error, 0, 0, 0, label),
-        Message::StateCommand(state, reason) => numbers(19, state, reason, 0, 0, label),
-        Message::ClientAbort(error) => numbers(20, error, 0, 0, 0, label),
-        Message::Indication(e) => {
-            let status = e.status;
-            let step = Step {
-                function: e.function,
-                state: e.state,
-                status: number_of(status),
-                error: 0,
-                tan: e.tan,
-                value: e.value,
-            };
-            executed(21, step, label)
+        Message::Nothing => {}
+        Message::CapabilityRequest(version) => flat.code = version,
+        Message::CapabilityResponse(c) => flat.capability = c,
+        Message::MemoryRequest(memory) => flat.memory = memory,
+        Message::MemoryResponse(status) => flat.code = status,
+        Message::VersionRequest => {}
+        Message::VersionResponse(error) => flat.code = error,
+        Message::ConfigurationRequest => {}
+        Message::ConfigurationResponse(error) => flat.code = error,
+        Message::Transfer => {}
+        Message::TransferResponse(error) => flat.code = error,
+        Message::ActivationCommand => {}
+        Message::PoolAcknowledgement(code, object) => {
+            flat.code = code;
+            flat.object = object;
         }
-        Message::IndicationResponse(r) => replied(22, r, label),
-        Message::Command(o) => {
-            let step = Step {
-                function: o.function,
-                state: o.state,
-                status: 0,
-                error: 0,
-                tan: o.tan,
-                value: o.value,
-            };
-            executed(23, step, label)
+        Message::DeleteCommand(memory) => flat.code = memory,
+        Message::DeleteResponse(error) => flat.code = error,
+        Message::StoreCommand => {}
+        Message::StoreResponse(error) => flat.code = error,
+        Message::LoadCommand => {}
+        Message::LoadResponse(error) => flat.code = error,
+        Message::StateCommand(state, reason) => {
+            flat.code = state;
+            flat.reason = reason;
         }
-        Message::Answer(r) => replied(24, r, label),
-        Message::AnswerAcknowledgement(r) => {
-            let status = r.status;
-            let step = Step {
-                function: r.function,
-                state: r.state,
-                status: number_of(status),
-                error: 0,
-                tan: r.tan,
-                value: 0,
-            };
-            executed(25, step, label)
-        }
+        Message::ClientAbort(error) => flat.code = error,
+        Message::Indication(e) => flat.step = execution_step(e),
+        Message::IndicationResponse(r) => flat.step = reply_step(r),
+        Message::Command(o) => flat.step = order_step(o),
+        Message::Answer(r) => flat.step = reply_step(r),
+        Message::AnswerAcknowledgement(r) => flat.step = receipt_step(r),
     }
+    flat
 }
 
-// None where the number of the status is above 3.
+// None where the status is other than 00, 01, 10 and 11.
 fn stated(status: u8, message: Message) -> Message
     ensures { λ r. ⌜ r ≡ stated status message ⌝ }
 {
-    if status <= 3 {
+    if status <= 0b11 {
         message
     } else {
         Message::Nothing
     }
 }
 
-fn execution_from(x: Step) -> Execution
+pub fn execution_from(x: MessageStep) -> Execution
     ensures { λ r. ⌜ r ≡ executionFrom x ⌝ }
 {
     Execution {
@@ -208,7 +244,7 @@ fn execution_from(x: Step) -> Execution
     }
 }
 
-fn reply_from(x: Step) -> Reply
+pub fn reply_from(x: MessageStep) -> Reply
     ensures { λ r. ⌜ r ≡ replyFrom x ⌝ }
 {
     Reply {
@@ -220,7 +256,7 @@ fn reply_from(x: Step) -> Reply
     }
 }
 
-fn receipt_from(x: Step) -> Receipt
+fn receipt_from(x: MessageStep) -> Receipt
     ensures { λ r. ⌜ r ≡ receiptFrom x ⌝ }
 {
     Receipt {
@@ -238,41 +274,44 @@ pub fn message_from(flat: Flat) -> Message
     let capability = flat.capability;
     let x = flat.step;
     match kind {
-        1 => Message::CapabilityRequest(flat.code),
-        2 => Message::CapabilityResponse(capability),
-        3 => Message::MemoryRequest(flat.memory),
-        4 => Message::MemoryResponse(flat.code),
-        5 => Message::VersionRequest,
-        6 => Message::VersionResponse(flat.code),
-        7 => Message::ConfigurationRequest,
-        8 => Message::ConfigurationResponse(flat.code),
-        9 => Message::Transfer,
-        10 => Message::TransferResponse(flat.code),
-        11 => Message::ActivationCommand,
-        12 => Message::PoolAcknowledgement(flat.code, flat.object),
-        13 => Message::DeleteCommand(flat.code),
-        14 => Message::DeleteResponse(flat.code),
-        15 => Message::StoreCommand,
-        16 => Message::StoreResponse(flat.code),
-        17 => Message::LoadCommand,
-        18 => Message::LoadResponse(flat.code),
-        19 => Message::StateCommand(flat.code, flat.reason),
-        20 => Message::ClientAbort(flat.code),
-        21 => stated(x.status, Message::Indication(execution_from(x))),
-        22 => stated(x.status, Message::IndicationResponse(reply_from(x))),
-        23 => Message::Command(Order {
+        kinds::CAPABILITY_REQUEST => Message::CapabilityRequest(flat.code),
+        kinds::CAPABILITY_RESPONSE => Message::CapabilityResponse(capability),
+        kinds::MEMORY_REQUEST => Message::MemoryRequest(flat.memory),
+        kinds::MEMORY_RESPONSE => Message::MemoryResponse(flat.code),
+        kinds::VERSION_REQUEST => Message::VersionRequest,
+        kinds::VERSION_RESPONSE => Message::VersionResponse(flat.code),
+        kinds::CONFIGURATION_REQUEST => Message::ConfigurationRequest,
+        kinds::CONFIGURATION_RESPONSE => Message::ConfigurationResponse(flat.code),
+        kinds::TRANSFER => Message::Transfer,
+        kinds::TRANSFER_RESPONSE => Message::TransferResponse(flat.code),
+        kinds::ACTIVATION_COMMAND => Message::ActivationCommand,
+        kinds::POOL_ACKNOWLEDGEMENT => Message::PoolAcknowledgement(flat.code, flat.object),
+        kinds::DELETE_COMMAND => Message::DeleteCommand(flat.code),
+        kinds::DELETE_RESPONSE => Message::DeleteResponse(flat.code),
+        kinds::STORE_COMMAND => Message::StoreCommand,
+        kinds::STORE_RESPONSE => Message::StoreResponse(flat.code),
+        kinds::LOAD_COMMAND => Message::LoadCommand,
+        kinds::LOAD_RESPONSE => Message::LoadResponse(flat.code),
+        kinds::STATE_COMMAND => Message::StateCommand(flat.code, flat.reason),
+        kinds::CLIENT_ABORT => Message::ClientAbort(flat.code),
+        kinds::INDICATION => stated(x.status, Message::Indication(execution_from(x))),
+        kinds::INDICATION_RESPONSE => stated(x.status, Message::IndicationResponse(reply_from(x))),
+        kinds::COMMAND => Message::Command(Order {
             function: x.function,
             state: x.state,
             tan: x.tan,
             value: x.value,
         }),
-        24 => stated(x.status, Message::Answer(reply_from(x))),
-        25 => stated(x.status, Message::AnswerAcknowledgement(receipt_from(x))),
-        0 | 26..=255 => Message::Nothing,
+        kinds::ANSWER => stated(x.status, Message::Answer(reply_from(x))),
+        kinds::ANSWER_ACKNOWLEDGEMENT => stated(
+            x.status,
+            Message::AnswerAcknowledgement(receipt_from(x)),
+        ),
+        kinds::NOTHING | 26..=255 => Message::Nothing,
     }
 }
 
-// What bytes that a side sent say: side 0 is a client, 1 the master.
+// What bytes that a side sent say.
 pub fn read(side: u32, bytes: &[u8]) -> FlatReading
     ensures { λ r. ⌜ r ≡ readingOf side (now (bytes .entry)) ⌝ }
 {
@@ -288,7 +327,7 @@ pub fn read(side: u32, bytes: &[u8]) -> FlatReading
 // Lays a message in a slice.
 pub fn write(flat: Flat, out: &mut [u8]) -> Written
     ensures { λ r. ⌜ r ≡ writtenOf (messageFrom flat) (flat .label) [] (length (now (out .entry))) ⌝ }
-    ensures { λ _. ⌜ now (out .exit) ≡ leftOf (messageFrom flat) (flat .label) [] (now (out .entry)) ⌝ }
+    ensures { λ _. ⌜ now (out .exit) ≡ writtenOver (messageFrom flat) (flat .label) [] (now (out .entry)) ⌝ }
 {
     let label = flat.label;
     message::write(message_from(flat), label, out)

@@ -1,16 +1,23 @@
 // An object of a pool as a struct of numbers, for C.
 use objects::Found;
 use objects::Kind;
-use pool::BaseHead;
-use pool::FunctionHead;
 use pool::Head;
-use pool::StateHead;
 ghost use mathlib.Core.Path.{_≡_};
 ghost use Rattle.objects.specs.Objects.{foundAt};
-ghost use Rattle.flat_object.specs.Flat.{blank, withBase, withFunction, withState, headFlat, flatOf};
+ghost use Rattle.objects.specs.declared.Kind.the-variants.{Of, Refused};
+ghost use Rattle.flat_object.specs.Flat.{flatKind, flatObject};
 
-// An object as C has it: numbers only. kind is 0 for a base, 1 for a function, 2 for a state, and 255 where none can be read at the place. The
-// numbers that a kind does not have are 0. standard is the version of the standard; n and m are the labels' lengths, count that of the list.
+// The kinds of an object; NONE where none can be read at the place.
+const BASE: u8 = 0;
+
+const FUNCTION: u8 = 1;
+
+const STATE: u8 = 2;
+
+const NONE: u8 = 255;
+
+// An object as C has it: numbers only. Those that a kind does not have are 0. standard is the version of the standard; n and m are the labels'
+// lengths, count that of the list.
 #[repr(C)]
 pub struct FlatObject {
     pub kind: u8,
@@ -40,16 +47,16 @@ pub struct FlatObject {
     pub list: [u16; 255],
 }
 
-// An object with no number yet.
-fn blank(kind: u8, place: usize, found: Found) -> FlatObject
-    ensures { λ r. ⌜ r ≡ blank kind place found ⌝ }
+// No object.
+fn none_at(place: usize, found: Found) -> FlatObject
+    ensures { λ r. ⌜ r ≡ flatKind (Refused place) place found ⌝ }
 {
     let object = found.object;
     let version = object.version;
     let configuration = object.configuration;
     let list = object.list;
     FlatObject {
-        kind,
+        kind: NONE,
         place,
         next: found.next,
         number: 0,
@@ -77,69 +84,60 @@ fn blank(kind: u8, place: usize, found: Found) -> FlatObject
     }
 }
 
-fn with_base(h: BaseHead, mut flat: FlatObject) -> FlatObject
-    ensures { λ r. ⌜ r ≡ withBase h flat ⌝ }
-{
-    flat.number = h.number;
-    flat.standard = h.version;
-    flat.master = h.master;
-    flat.mask = h.mask;
-    flat.name = h.name;
-    flat.picture = h.picture;
-    flat.n = h.n;
-    flat.m = h.m;
-    flat.count = h.o;
-    flat
-}
-
-fn with_function(h: FunctionHead, mut flat: FlatObject) -> FlatObject
-    ensures { λ r. ⌜ r ≡ withFunction h flat ⌝ }
-{
-    flat.number = h.number;
-    flat.function = h.function;
-    flat.trigger = h.trigger;
-    flat.attribute = h.attribute;
-    flat.minimum = h.minimum;
-    flat.maximum = h.maximum;
-    flat.offset = h.offset;
-    flat.scale = h.scale;
-    flat.decimals = h.decimals;
-    flat.unit = h.unit;
-    flat.name = h.name;
-    flat.picture = h.picture;
-    flat.count = h.s;
-    flat
-}
-
-fn with_state(h: StateHead, mut flat: FlatObject) -> FlatObject
-    ensures { λ r. ⌜ r ≡ withState h flat ⌝ }
-{
-    flat.number = h.number;
-    flat.state = h.state;
-    flat.name = h.name;
-    flat.picture = h.picture;
-    flat
-}
-
+// Tables A.1 to A.3.
 fn head_flat(head: Head, place: usize, found: Found) -> FlatObject
-    ensures { λ r. ⌜ r ≡ headFlat head place found ⌝ }
+    ensures { λ r. ⌜ r ≡ flatKind (Of head) place found ⌝ }
 {
+    let mut flat = none_at(place, found);
     match head {
-        Head::Base(b) => with_base(b, blank(0, place, found)),
-        Head::Function(f) => with_function(f, blank(1, place, found)),
-        Head::State(s) => with_state(s, blank(2, place, found)),
+        Head::Base(h) => {
+            flat.kind = BASE;
+            flat.number = h.number;
+            flat.standard = h.version;
+            flat.master = h.master;
+            flat.mask = h.mask;
+            flat.name = h.name;
+            flat.picture = h.picture;
+            flat.n = h.n;
+            flat.m = h.m;
+            flat.count = h.o;
+        }
+        Head::Function(h) => {
+            flat.kind = FUNCTION;
+            flat.number = h.number;
+            flat.function = h.function;
+            flat.trigger = h.trigger;
+            flat.attribute = h.attribute;
+            flat.minimum = h.minimum;
+            flat.maximum = h.maximum;
+            flat.offset = h.offset;
+            flat.scale = h.scale;
+            flat.decimals = h.decimals;
+            flat.unit = h.unit;
+            flat.name = h.name;
+            flat.picture = h.picture;
+            flat.count = h.s;
+        }
+        Head::State(h) => {
+            flat.kind = STATE;
+            flat.number = h.number;
+            flat.state = h.state;
+            flat.name = h.name;
+            flat.picture = h.picture;
+        }
     }
+    flat
 }
 
 // The object at a place of a pool.
 pub fn object_at(pool: &[u8], place: usize) -> FlatObject
-    ensures { λ r. ⌜ r ≡ flatOf place (foundAt (now (pool .entry)) place) ⌝ }
+    ensures { λ r. ⌜ r ≡ flatObject place (foundAt (now (pool .entry)) place) ⌝ }
 {
     let found = objects::object_at(pool, place);
     let object = found.object;
     let kind = object.kind;
     match kind {
         Kind::Of(head) => head_flat(head, place, found),
-        Kind::Refused(_) => blank(255, place, found),
+        Kind::Refused(_) => none_at(place, found),
     }
 }

@@ -1,5 +1,4 @@
 -- A step that is held comes from the log: what a message does to one step, and a step that stays is traced.
--- Assumes nothing.
 use Prim.Native.Nat.{ℕ}
 use mathlib.Core.Path.{_≡_, refl, sym, ap, subst, _∙_}
 use mathlib.Core.Bool.{Bool, true, false, not, _&&_, _||_, true≢false}
@@ -9,36 +8,37 @@ use native.Mathlib.Omega.{arith}
 use lib.Dec.{eqb, ltb}
 use borrow.Author.Tests.{eq-eqb, ne-eqb, eqb-true, not-false}
 use Rattle.octets.specs.Pick.{pick}
-use Rattle.message.specs.Fields.{numberOf}
+use Rattle.message.specs.Fields.{statusNumber}
 use Rattle.message.specs.declared.Execution.{Execution}
 use Rattle.message.specs.declared.Status.{Status}
 use Rattle.message.specs.declared.Status.the-variants.{AtOnce, Started, Done, Failed}
 use Rattle.arrays.specs.Arrays.{those}
-use Rattle.recording.specs.Indication.{status, oneShot, opened, done, isOpen, isStepOf, isSame, takes, againError, finished, broken, stepAfter}
+use Rattle.recording.specs.Indication.{status, oneShot, opened, done, isOpen, isStepOf, isSame, takes, againError, doneWith, broken, stepAfter}
 use Rattle.recording.specs.Kept.{stays}
 use Rattle.recording.specs.declared.Taken.{Taken}
 use Rattle.recording.proofs.Errors.{passed}
 use Rattle.recording.proofs.Steps.{both, unchanged, idle-at-once, idle-started, finishing, finish-error}
+use Rattle.events.proofs.Choices.{either, is-false}
 use Rattle.history.specs.Log.{Entry}
 use Rattle.history.specs.Steps.{isAccepted, isFinish, FirstOf, Begins}
 use Rattle.history.specs.Promises.{Traced}
-use Rattle.history.proofs.Lists.{either, is-false, all-true, left-false, right-false, still-none, first-now, first-still}
+use Rattle.history.proofs.Lists.{all-true, left-false, right-false, still-none, first-now, first-still}
 
 -- ---- a status and its number
 
-pub at-once-is : (s : Status) → numberOf s ≡ 0 → s ≡ AtOnce
+pub at-once-is : (s : Status) → statusNumber s ≡ 0 → s ≡ AtOnce
 at-once-is AtOnce e = refl
 at-once-is Started e = absurd (omega arith)
 at-once-is Done e = absurd (omega arith)
 at-once-is Failed e = absurd (omega arith)
 
-pub started-is : (s : Status) → (numberOf s ≡ 0 → ⊥) → (eqb (numberOf s) 2 || eqb (numberOf s) 3) ≡ false → s ≡ Started
+pub started-is : (s : Status) → (statusNumber s ≡ 0 → ⊥) → (eqb (statusNumber s) 2 || eqb (statusNumber s) 3) ≡ false → s ≡ Started
 started-is AtOnce k n = absurd (k refl)
 started-is Started k n = refl
 started-is Done k n = absurd (true≢false n)
 started-is Failed k n = absurd (true≢false n)
 
-pub done-is : (s : Status) → numberOf s ≡ 2 → s ≡ Done
+pub done-is : (s : Status) → statusNumber s ≡ 2 → s ≡ Done
 done-is AtOnce e = absurd (omega arith)
 done-is Started e = absurd (omega arith)
 done-is Done e = refl
@@ -114,7 +114,7 @@ failing t e q z = rw (q, z)
 step-cases :
     (t : Taken) (e : Execution) (P : Taken → Type 0)
     → (stepAfter t e ≡ t → P t)
-    → ((isSame t e && isOpen t) ≡ true → e .status ≡ Done → P (finished t (e .value)))
+    → ((isSame t e && isOpen t) ≡ true → e .status ≡ Done → P (doneWith t (e .value)))
     → ((isSame t e && isOpen t) ≡ true → e .status ≡ Failed → P (broken t))
     → P (stepAfter t e)
 step-cases t e P f g h = go (isSame t e && isOpen t) refl (e .status) refl
@@ -144,7 +144,7 @@ unfolding againError
 answers-done t e k z =
     let a = passed (not (isSame t e)) 2 _ k in
     let b = passed (not (takes (t .status) (status e))) 2 _ (a .1) in
-    sym (ap (λ (s : Status). takes (t .status) (numberOf s)) z) ∙ not-false _ (b .0)
+    sym (ap (λ (s : Status). takes (t .status) (statusNumber s)) z) ∙ not-false _ (b .0)
 
 module _ (log : List Entry) (x : Entry) (t : Taken) (h : Held log t) (it : isStepOf (x .slot) (x .message .tan) t ≡ true) (answer : x .error ≡ againError t (x .message)) where
   abbrev m : Execution
@@ -178,9 +178,9 @@ module _ (log : List Entry) (x : Entry) (t : Taken) (h : Held log t) (it : isSte
     finishes z =
         all-true (isAccepted (h .began .slot) (h .began .message .tan) x) _
         (all-true _ (eqb (x .error) 0) (sym (its-step log x t h) ∙ it) (eq-eqb (x .error) 0 (answer ∙ finish-error t m q z)))
-        (all-true _ (eqb (status m) 2) (sym (its-same log x t h) ∙ both (isSame t m) (isOpen t) q .0) (ap (λ (s : Status). eqb (numberOf s) 2) z))
+        (all-true _ (eqb (status m) 2) (sym (its-same log x t h) ∙ both (isSame t m) (isOpen t) q .0) (ap (λ (s : Status). eqb (statusNumber s) 2) z))
 
-    held-finished : m .status ≡ Done → Held (log ++ x ∷ []) (finished t (m .value))
+    held-finished : m .status ≡ Done → Held (log ++ x ∷ []) (doneWith t (m .value))
     held-finished z = record {
       began = h .began;
       tan = h .tan;
@@ -200,7 +200,7 @@ module _ (log : List Entry) (x : Entry) (t : Taken) (h : Held log t) (it : isSte
       start = h .start;
       one-shot = λ s. absurd (omega arith);
       started = λ _. was-started;
-      unfinished = λ _. still-none (isFinish (h .began)) log x was-unfinished (not-yet (h .began) x (ap (λ (s : Status). eqb (numberOf s) 2) z));
+      unfinished = λ _. still-none (isFinish (h .began)) log x was-unfinished (not-yet (h .began) x (ap (λ (s : Status). eqb (statusNumber s) 2) z));
       is-done = λ s. absurd (omega arith);
     }
 

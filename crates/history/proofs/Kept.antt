@@ -1,5 +1,4 @@
 -- What is kept of a recording: each step that stays is traced, and the steps are those that the log gives.
--- Assumes nothing.
 use Prim.Native.Nat.{ℕ}
 use mathlib.Core.Path.{_≡_, refl, sym, ap, subst, _∙_}
 use mathlib.Core.Bool.{Bool, true, false, cond}
@@ -10,7 +9,7 @@ use lib.ListN.{length, getD, drop, length-map}
 use borrow.Author.Tests.{ne-eqb, eqb-true, eqb-false}
 use Rattle.octets.specs.Pick.{pick}
 use Rattle.octets.proofs.Tests.{pick-true, pick-false}
-use Rattle.message.specs.Fields.{numberOf}
+use Rattle.message.specs.Fields.{statusNumber}
 use Rattle.message.specs.declared.Status.{Status}
 use Rattle.arrays.specs.Arrays.{some, those}
 use Rattle.arrays.specs.Every.{Every}
@@ -19,16 +18,16 @@ use Rattle.sequence.specs.Sequence.{stepsOf}
 use Rattle.sequence.specs.declared.Step.{Step}
 use Rattle.sequence.specs.declared.Sequence.{Sequence}
 use Rattle.recording.specs.Indication.{status, heldOf}
-use Rattle.recording.specs.Kept.{stays, stepIn, stayed, keptOf}
+use Rattle.recording.specs.Kept.{stays, stepIn, stayed, keptSequence}
 use Rattle.recording.specs.Promises.{Sound, startOf}
 use Rattle.recording.specs.declared.Taken.{Taken}
 use Rattle.recording.specs.declared.Recording.{Recording}
-use Rattle.recording.proofs.Cases.{step}
 use Rattle.recording.proofs.Keeps.{keeps}
+use Rattle.events.proofs.Choices.{either}
 use Rattle.history.specs.Log.{Entry}
 use Rattle.history.specs.Steps.{isAccepted, isFinish, FirstOf, beginnings, stepFrom, stepsBy, stepsOfAll, recordedBy, keptFrom}
 use Rattle.history.specs.Promises.{Traced}
-use Rattle.history.proofs.Lists.{either, every-chosen}
+use Rattle.history.proofs.Lists.{every-chosen}
 use Rattle.history.proofs.Held.{Held, traced}
 use Rattle.history.proofs.Beginnings.{startIn, First}
 use Rattle.history.proofs.Told.{Told}
@@ -37,7 +36,7 @@ use Rattle.history.proofs.Told.{Told}
 
 pub kept-traced :
     (log : List Entry) (r : Recording) (old : Sequence) → Sound r → Told r log → some stays (heldOf r) ≡ true
-    → Every (Traced log) (stepsOf (keptOf r old))
+    → Every (Traced log) (stepsOf (keptSequence r old))
 kept-traced log r old s h n =
     subst (Every (Traced log)) (sym (keeps r old s .steps n))
     (every-map stepIn (Traced log) (those stays (heldOf r)) (every-chosen _ stays (heldOf r) (every-weaken (λ t p. traced log t p) (heldOf r) (h .steps))))
@@ -74,13 +73,13 @@ module _ (log : List Entry) (t : Taken) (k : Held log t) (b : Entry) (first : Fi
   Exact = map stepIn (cond (stays t) (t ∷ []) []) ≡ stepsBy log b
 
   started-later : (t .status ≡ 0 → ⊥) → eqb (status (b .message)) 0 ≡ false
-  started-later n = ap (λ (s : Status). eqb (numberOf s) 0) (ap (λ (y : Entry). y .message .status) (sym is-its) ∙ k .started n)
+  started-later n = ap (λ (s : Status). eqb (statusNumber s) 0) (ap (λ (y : Entry). y .message .status) (sym is-its) ∙ k .started n)
 
   exact-at-once : eqb (t .status) 0 ≡ true → Exact
   unfolding pick
   exact-at-once y =
       let o = k .one-shot (eqb-true (t .status) 0 y) in
-      let z : eqb (status (b .message)) 0 ≡ true = ap (λ (s : Status). eqb (numberOf s) 0) (ap (λ (x : Entry). x .message .status) (sym is-its) ∙ o .0) in
+      let z : eqb (status (b .message)) 0 ≡ true = ap (λ (s : Status). eqb (statusNumber s) 0) (ap (λ (x : Entry). x .message .status) (sym is-its) ∙ o .0) in
       rw (y, z) (ap (λ (u : Step). u ∷ []) (is-step (b .message .value) (o .1 ∙ ap (λ (x : Entry). x .message .value) is-its)))
 
   exact-done : eqb (t .status) 0 ≡ false → eqb (t .status) 2 ≡ true → Exact
@@ -118,7 +117,7 @@ exact-all log (t ∷ ts) (b ∷ bs) h f e =
     stayed-more t ts ∙ ap (λ (l : List Step). l ++ stayed ts) one ∙ ap (λ (l : List Step). stepsBy log b ++ l) others
 
 pub kept-exact :
-    (log : List Entry) (r : Recording) (old : Sequence) → Sound r → Told r log → stepsOf (keptOf r old) ≡ keptFrom log (stepsOf old)
+    (log : List Entry) (r : Recording) (old : Sequence) → Sound r → Told r log → stepsOf (keptSequence r old) ≡ keptFrom log (stepsOf old)
 kept-exact log r old s h =
     either (some stays (heldOf r))
     (λ n.

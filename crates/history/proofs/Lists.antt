@@ -1,5 +1,4 @@
 -- Choices, what is first of a log that grows, and a list of steps of which one is replaced.
--- Assumes nothing.
 use Prim.Native.Nat.{ℕ, zero, suc, _<_}
 use mathlib.Core.Path.{_≡_, refl, sym, ap, _∙_}
 use mathlib.Core.Bool.{Bool, true, false, _&&_, cond, true≢false}
@@ -8,31 +7,18 @@ use native.Mathlib.Omega.{arith}
 use lib.Dec.{eqb}
 use lib.ListN.{length, getD, set}
 use borrow.Author.Tests.{eqb-true}
-use Rattle.octets.specs.Pick.{pick}
 use Rattle.arrays.specs.Arrays.{those}
-use Rattle.arrays.specs.Every.{Every, Pairs}
+use Rattle.arrays.specs.Every.{Every, EveryTwo}
 use Rattle.arrays.proofs.Fill.{those-append}
 use Rattle.arrays.proofs.Every.{every-at}
 use Rattle.recording.specs.Indication.{isStepOf}
 use Rattle.recording.specs.declared.Taken.{Taken}
 use Rattle.recording.proofs.Steps.{both}
+use Rattle.events.proofs.Choices.{is-false}
 use Rattle.history.specs.Log.{Entry}
 use Rattle.history.specs.Steps.{FirstOf}
 
 -- ---- choices
-
-pub chosen-by : {X : Type 0} (P : X → Type 0) (b : Bool) (x y : X) → (b ≡ true → P x) → (b ≡ false → P y) → P (pick b x y)
-unfolding pick
-chosen-by P true x y p q = p refl
-chosen-by P false x y p q = q refl
-
-pub either : {Q : Type 0} (b : Bool) → (b ≡ true → Q) → (b ≡ false → Q) → Q
-either true p q = p refl
-either false p q = q refl
-
-pub is-false : (b : Bool) → (b ≡ true → ⊥) → b ≡ false
-is-false true h = absurd (h refl)
-is-false false h = refl
 
 pub is-true : (b : Bool) → (b ≡ false → ⊥) → b ≡ true
 is-true true h = refl
@@ -104,7 +90,7 @@ module _ (slot tan : ℕ) where
 
   module _ (P Q : Taken → Type 0) (d u : Taken) (other : (t : Taken) → P t → isStepOf slot tan t ≡ false → Q t) where
     pub set-every :
-        (l : List Taken) (i : ℕ) → i < length l → isStepOf slot tan (getD l i d) ≡ true → Pairs Single l → Every P l → (P (getD l i d) → Q u)
+        (l : List Taken) (i : ℕ) → i < length l → isStepOf slot tan (getD l i d) ≡ true → EveryTwo Single l → Every P l → (P (getD l i d) → Q u)
         → Every Q (set l i u)
     set-every [] i h q s p f = absurd (omega arith)
     set-every (x ∷ l) zero h q s p f = (f (p .0), every-two (λ y a b. other y a (after-it x y q b)) l (p .1) (s .0))

@@ -1,5 +1,4 @@
 -- Over every run: its calls are taken one after the other, and what holds of the calls so far holds with one more.
--- Assumes nothing.
 use mathlib.Core.Path.{_≡_, refl, sym, ap, subst, _∙_}
 use mathlib.Core.Bool.{Bool, true, false, _&&_, true≢false}
 use mathlib.Core.Logic.{_⊎_, inl, inr}
@@ -10,11 +9,6 @@ use Rattle.arrays.specs.Every.{Every}
 use Rattle.arrays.proofs.Every.{every-weaken}
 use Rattle.sequence.specs.Sequence.{stepsOf, blankSequence}
 use Rattle.recording.proofs.Steps.{both}
-use Rattle.recording.proofs.Sound.{sound-blank}
-use Rattle.recording.proofs.Keeps.{sound-none}
-use Rattle.recording.specs.Promises.{Sound, SoundSequence}
-use Rattle.playback.specs.Promises.{Tidy}
-use Rattle.playback.proofs.Keeps as played
 use Rattle.sequence.specs.declared.Sequence as sequence
 use Rattle.sequence.specs.declared.Step.{Step}
 use Rattle.message.specs.declared.Status.the-variants.{AtOnce, Started}
@@ -22,14 +16,16 @@ use Rattle.recording.specs.Indication.{status}
 use Rattle.master.specs.declared.Master.{Master}
 use Rattle.master.specs.States as state
 use Rattle.master.specs.States.{newMaster, isRecording}
-use Rattle.events.specs.Events.{Event, on, off, «record», stop, cancel, start, abort, attach, enable, disable, report, lost, indication, clientAbort, tick, answer, apply, runFrom, run}
-use Rattle.history.specs.Log.{Entry, entriesIn, logAfter, logFrom, logOf}
+use Rattle.events.specs.Events.{Event, indication, Sort, stops, hears, ticks, answers, other, sortOf, apply, runFrom, run}
+use Rattle.events.proofs.Choices.{chosen-by}
+use Rattle.events.proofs.Regular.{given-regular}
+use Rattle.history.specs.Log.{Entry, entriesBy, entriesIn, logAfter, logFrom, logOf}
 use Rattle.history.specs.Steps.{isAccepted, isFinish, FirstOf, keptFrom}
 use Rattle.history.specs.Promises.{Traced, KeptBy, Happened, Recorded, doesKeep, Promises}
-use Rattle.history.proofs.Lists.{chosen-by, all-true, every-chosen, every-append}
+use Rattle.history.proofs.Lists.{all-true, every-chosen, every-append}
 use Rattle.history.proofs.Held.{done-is}
 use Rattle.history.proofs.Told.{told-blank}
-use Rattle.history.proofs.Next.{Good, Sequence, apply-next, apply-whole}
+use Rattle.history.proofs.Next.{Good, SequenceAfter, stillSame, nowKept, Next, apply-next}
 
 -- ---- one call more
 
@@ -52,20 +48,9 @@ along P z f events = go events [] z
 
 -- ---- the entries are of the run
 
-happened-last : (before : List Event) (e : Event) → Every (Happened (before ++ e ∷ [])) (entriesIn (run before) e)
-happened-last before on = tt
-happened-last before off = tt
-happened-last before «record» = tt
-happened-last before stop = tt
-happened-last before cancel = tt
-happened-last before start = tt
-happened-last before abort = tt
-happened-last before (attach slot name pool) = tt
-happened-last before (enable slot out) = tt
-happened-last before (disable slot out) = tt
-happened-last before (report slot number) = tt
-happened-last before (lost slot) = tt
-happened-last before (indication slot msg out) =
+happened-by : (before : List Event) (e : Event) (s : Sort e) → Every (Happened (before ++ e ∷ [])) (entriesBy (run before) e s)
+happened-by before e stops = tt
+happened-by before e (hears slot msg out) =
     chosen-by (Every (Happened (before ++ indication slot msg out ∷ []))) _ _ _
     (λ t.
     let b = both (isRecording (run before)) _ t in (
@@ -83,9 +68,12 @@ happened-last before (indication slot msg out) =
       tt,
     ))
     (λ _. tt)
-happened-last before (clientAbort slot msg) = tt
-happened-last before (tick mm out) = tt
-happened-last before (answer slot msg out) = tt
+happened-by before e (ticks mm out) = tt
+happened-by before e (answers slot msg out) = tt
+happened-by before e (other n) = tt
+
+happened-last : (before : List Event) (e : Event) → Every (Happened (before ++ e ∷ [])) (entriesIn (run before) e)
+happened-last before e = happened-by before e (sortOf e)
 
 -- a call of the beginning of a run is one of the run
 happened-in : (events rest : List Event) (x : Entry) → Happened events x → Happened (events ++ rest) x
@@ -119,7 +107,7 @@ record Traces (events : List Event) : Type 0 where
 none-yet : Traces []
 unfolding newMaster blankSequence stepsOf
 none-yet = record {
-  good = record { sound = sound-blank; told = told-blank; idle = λ _. refl; sequence = sound-none; playback = played.keeps .starting };
+  good = record { told = told-blank; idle = λ _. refl };
   kept = inl refl;
 }
 
@@ -143,13 +131,18 @@ module _ (events : List Event) (e : Event) where
     steps = subst (λ (q : sequence.Sequence). Every (Traced (logOf (k .before) ++ entriesIn (run (k .before)) (k .last))) (stepsOf q)) (sym c) (k .steps);
   }
 
+  still : (stepsOf (run events .sequence) ≡ []) ⊎ KeptBy events → apply (run events) e .master .sequence ≡ run events .sequence
+      → (stepsOf (run all .sequence) ≡ []) ⊎ KeptBy all
+  still (inl z) c = inl (ap (λ (m : Master). stepsOf (m .sequence)) more ∙ ap stepsOf c ∙ z)
+  still (inr k) c = inr (kept-still (ap (λ (m : Master). m .sequence) more ∙ c) k)
+
   kept-more :
       (stepsOf (run events .sequence) ≡ []) ⊎ KeptBy events
-      → Sequence (run events) (doesKeep e) (logOf events ++ entriesIn (run events) e) (apply (run events) e .master)
+      → SequenceAfter (run events) e (logOf events ++ entriesIn (run events) e) (apply (run events) e .master)
       → (stepsOf (run all .sequence) ≡ []) ⊎ KeptBy all
-  kept-more (inl z) (inl c) = inl (ap (λ (m : Master). stepsOf (m .sequence)) more ∙ ap stepsOf c ∙ z)
-  kept-more (inr k) (inl c) = inr (kept-still (ap (λ (m : Master). m .sequence) more ∙ c) k)
-  kept-more k (inr (i, y, r, t)) = inr (record {
+  kept-more k (stillSame c f) = still k c
+  kept-more k (nowKept z x (inl c)) = still k c
+  kept-more k (nowKept (i, y, r) x (inr t)) = inr (record {
     before = events;
     last = e;
     after = [];
@@ -161,13 +154,16 @@ module _ (events : List Event) (e : Event) where
     steps = subst (λ (m : Master). Every (Traced (logOf events ++ entriesIn (run events) e)) (stepsOf (m .sequence))) (sym more) t;
   })
 
+  next : Traces events → Next (run events) e (logOf events) (entriesIn (run events) e) (apply (run events) e .master)
+  next h = apply-next (run events) (logOf events) (h .good) (given-regular (run events) (events, refl) .recording .sound) e
+
   one-more : Traces events → Traces all
-  one-more h =
-      let n = apply-next (run events) (logOf events) (h .good) (doesKeep e) e refl in
-      record {
-        good = subst (λ (m : Master). Good m (logOf all)) (sym more) (subst (Good (apply (run events) e .master)) (sym (log-more events e newMaster [])) (n .good));
-        kept = kept-more (h .kept) (n .sequence);
-      }
+  one-more h = record {
+    good =
+        subst (λ (m : Master). Good m (logOf all)) (sym more)
+        (subst (Good (apply (run events) e .master)) (sym (log-more events e newMaster [])) (next h .good));
+    kept = kept-more (h .kept) (next h .sequence);
+  }
 
 traces : (events : List Event) → Traces events
 traces = along Traces none-yet one-more
@@ -251,22 +247,26 @@ exact :
     (before : List Event) (last : Event) → isRecording (run before) ≡ true → doesKeep last ≡ true → run (before ++ last ∷ []) .state ≡ state.ready
     → stepsOf (run (before ++ last ∷ []) .sequence) ≡ keptFrom (logOf before ++ entriesIn (run before) last) (stepsOf (run before .sequence))
 exact before last i k z =
-    ap (λ (m : Master). stepsOf (m .sequence)) (more before last)
-    ∙ apply-whole (run before) (logOf before) (traces before .good) true last k i (ap (λ (m : Master). m .state) (sym (more before last)) ∙ z)
+    ap (λ (m : Master). stepsOf (m .sequence)) (more before last) ∙ go (next before last (traces before) .sequence)
+  where
+    go :
+        SequenceAfter (run before) last (logOf before ++ entriesIn (run before) last) (apply (run before) last .master)
+        → stepsOf (apply (run before) last .master .sequence) ≡ keptFrom (logOf before ++ entriesIn (run before) last) (stepsOf (run before .sequence))
+    go (stillSame c f) = absurd (f (i, k, ap (λ (m : Master). m .state) (sym (more before last)) ∙ z))
+    go (nowKept y x t) = x
 
 others :
     (before : List Event) (last : Event)
     → (isRecording (run before) && doesKeep last && eqb (run (before ++ last ∷ []) .state) state.ready) ≡ false
     → run (before ++ last ∷ []) .sequence ≡ run before .sequence
 others before last n =
-    ap (λ (m : Master). m .sequence) (more before last)
-    ∙ go (apply-next (run before) (logOf before) (traces before .good) (doesKeep last) last refl .sequence)
+    ap (λ (m : Master). m .sequence) (more before last) ∙ go (next before last (traces before) .sequence)
   where
     go :
-        Sequence (run before) (doesKeep last) (logOf before ++ entriesIn (run before) last) (apply (run before) last .master)
+        SequenceAfter (run before) last (logOf before ++ entriesIn (run before) last) (apply (run before) last .master)
         → apply (run before) last .master .sequence ≡ run before .sequence
-    go (inl c) = c
-    go (inr (i, y, r, t)) =
+    go (stillSame c f) = c
+    go (nowKept (i, y, r) x t) =
         let z = eq-eqb _ 1 (ap (λ (m : Master). m .state) (more before last) ∙ r) in
         absurd (true≢false (sym (all-true _ _ (all-true _ _ i y) z) ∙ n))
 
@@ -278,7 +278,7 @@ promises = record {
   others = others;
   happened = happened;
   happened-last = happened-last;
-  sound = λ m g. subst (λ (n : Master). Sound (n .recording)) (g .1) (traces (g .0) .good .sound);
-  sound-sequence = λ m g. subst (λ (n : Master). SoundSequence (n .sequence)) (g .1) (traces (g .0) .good .sequence);
-  tidy = λ m g. subst (λ (n : Master). Tidy (n .playback)) (g .1) (traces (g .0) .good .playback);
+  sound = λ m g. given-regular m g .recording .sound;
+  sound-sequence = λ m g. given-regular m g .sequence;
+  tidy = λ m g. given-regular m g .playback .tidy;
 }

@@ -1,5 +1,4 @@
 -- The log tells of every step that is held: at the start, with every tick and with every message.
--- Assumes nothing.
 use Prim.Native.Nat.{ℕ, _<_}
 use mathlib.Core.Path.{_≡_, refl, sym, ap, subst, _∙_}
 use mathlib.Core.Bool.{Bool, true, false, not, _&&_, _||_, true≢false}
@@ -14,9 +13,9 @@ use Rattle.message.specs.declared.Execution.{Execution}
 use Rattle.arrays.specs.Arrays.{some, those}
 use Rattle.arrays.specs.Every.{Every}
 use Rattle.arrays.proofs.Every.{every-weaken, every-at, every-more, some-alike, some-more, none-passes, those-none, neither}
-use Rattle.client.specs.declared.Slot.{Slot}
+use Rattle.client.specs.declared.Client.{Client}
 use Rattle.recording.specs.State.{blankTaken, blankRecording}
-use Rattle.recording.specs.Indication.{status, countedOf, heldOf, stepAt, isStepOf, againError, stepAfter, withStep, heardAgain, newStep, heardOf}
+use Rattle.recording.specs.Indication.{status, countedRecording, heldOf, stepAt, isStepOf, againError, stepAfter, withStep, heardAgain, newStep, heardOf}
 use Rattle.recording.specs.Promises.{Sound, startOf}
 use Rattle.recording.specs.declared.Taken.{Taken}
 use Rattle.recording.specs.declared.Recording.{Recording}
@@ -25,9 +24,10 @@ use Rattle.recording.proofs.Errors.{early, room}
 use Rattle.recording.proofs.Cases.{held-count, held-at, held-new, error, refused, step, begun, by-cases}
 use Rattle.recording.proofs.Steps.{both, start-same, is-begun}
 use Rattle.recording.proofs.Sound.{starts}
+use Rattle.events.proofs.Choices.{is-false}
 use Rattle.history.specs.Log.{Entry}
 use Rattle.history.specs.Steps.{isAccepted, isFinish, FirstOf, beginnings, isFirst}
-use Rattle.history.proofs.Lists.{is-false, is-true, all-true, none-both, still-none, first-now, left-false, right-false, every-two, set-every}
+use Rattle.history.proofs.Lists.{is-true, all-true, none-both, still-none, first-now, left-false, right-false, every-two, set-every}
 use Rattle.history.proofs.Beginnings.{startIn, First, none-some, begins-none, begins-one, firsts-still}
 use Rattle.history.proofs.Held.{Held, at-once-is, started-is, grown, not-accepted, not-finished, not-yet, not-its, held-after}
 
@@ -43,8 +43,8 @@ pub told-blank : Told blankRecording []
 unfolding blankRecording
 told-blank = record { steps = tt; fresh = λ slot tan n. refl; order = refl; firsts = tt }
 
-pub told-counted : (r : Recording) (mm : ℕ) (log : List Entry) → Told r log → Told (countedOf r mm) log
-unfolding countedOf
+pub told-counted : (r : Recording) (mm : ℕ) (log : List Entry) → Told r log → Told (countedRecording r mm) log
+unfolding countedRecording
 told-counted r mm log h = record { steps = h .steps; fresh = h .fresh; order = h .order; firsts = h .firsts }
 
 -- a message is accepted of the step that has its client and TAN
@@ -62,7 +62,7 @@ not-of slot tan t x n a b = is-false (isAccepted slot tan x) no
 
 -- ---- a message
 
-module _ (log : List Entry) (r : Recording) (slot : ℕ) (client : Slot) (complete : Bool) (e : Execution) (s : Sound r) (h : Told r log) where
+module _ (log : List Entry) (r : Recording) (slot : ℕ) (client : Client) (complete : Bool) (e : Execution) (s : Sound r) (h : Told r log) where
   -- its entry, by its answer
   abbrev pub entry : ℕ → Entry
   entry error = record {

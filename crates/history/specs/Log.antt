@@ -1,19 +1,14 @@
 -- The indications (E.4) of a recording, in the order in which they came: 01, "An E.4 counts if its client is enabled and last reported record, in
 -- record or record complete". The log of a run is that of the recording which is on at its end.
--- Assumes nothing: these are definitions.
 use Prim.Native.Nat.{ℕ}
 use mathlib.Core.Bool.{Bool, _&&_}
 use mathlib.Core.List.{List, [], _∷_, _++_}
 use lib.Dec.{eqb}
-use Rattle.octets.specs.Pick.{pick}
+use Rattle.octets.specs.{Pick.pick, Numbers.completed}
 use Rattle.profile.specs.Profile as profile
 use Rattle.message.specs.declared.Execution.{Execution}
-use Rattle.master.specs.declared.Master.{Master}
-use Rattle.master.specs.Numbers.{slotAt}
-use Rattle.master.specs.Messages.{executionIn}
-use Rattle.master.specs.States.{newMaster, isRecording}
-use Rattle.master.specs.Recording.{heard}
-use Rattle.events.specs.Events.{Event, on, off, «record», stop, cancel, start, abort, attach, enable, disable, report, lost, indication, clientAbort, tick, answer, apply}
+use Rattle.master.specs.{declared.Master.Master, Call.slotAt, Messages.executionIn, States.newMaster, States.isRecording, Recording.heard}
+use Rattle.events.specs.Events.{Event, indication, Sort, stops, hears, ticks, answers, other, sortOf, apply}
 
 -- an E.4 that counts: the slot that sent it, what is read of it, the error of its E.5, the ticks and millimetres counted then, and the preferred trigger
 -- of its function in the pool then loaded
@@ -36,27 +31,19 @@ entryOf m slot msg = record {
 }
 
 -- the call is not refused, in record or record complete
-abbrev pub isCounted : Master → Event → Bool
-isCounted m e = isRecording m && eqb (apply m e .number) 0
+abbrev pub isEntered : Master → Event → Bool
+isEntered m e = isRecording m && eqb (apply m e .number) completed
 
 -- what a call brings: an E.4 that counts, its entry; any other call, none
+abbrev pub entriesBy : Master → (e : Event) → Sort e → List Entry
+entriesBy m e stops = []
+entriesBy m e (hears slot msg out) = pick (isEntered m (indication slot msg out)) (entryOf m slot msg ∷ []) []
+entriesBy m e (ticks mm out) = []
+entriesBy m e (answers slot msg out) = []
+entriesBy m e (other n) = []
+
 abbrev pub entriesIn : Master → Event → List Entry
-entriesIn m on = []
-entriesIn m off = []
-entriesIn m «record» = []
-entriesIn m stop = []
-entriesIn m cancel = []
-entriesIn m start = []
-entriesIn m abort = []
-entriesIn m (attach slot name pool) = []
-entriesIn m (enable slot out) = []
-entriesIn m (disable slot out) = []
-entriesIn m (report slot number) = []
-entriesIn m (lost slot) = []
-entriesIn m (indication slot msg out) = pick (isCounted m (indication slot msg out)) (entryOf m slot msg ∷ []) []
-entriesIn m (clientAbort slot msg) = []
-entriesIn m (tick mm out) = []
-entriesIn m (answer slot msg out) = []
+entriesIn m e = entriesBy m e (sortOf e)
 
 -- the log after a call: none where no recording is on
 abbrev pub logAfter : Master → Event → List Entry → List Entry

@@ -1,22 +1,20 @@
 -- "every step of a kept sequence has slot, function, state, trigger kind and mark of the indication that began it and the 32-bit value of the indication
 -- that finished it": over every run of calls, from the master as it is made.
--- Assumes nothing: these are statements.
 use Prim.Native.Nat.{ℕ}
 use mathlib.Core.Path.{_≡_}
 use mathlib.Core.Bool.{Bool, true, false, _&&_}
 use mathlib.Core.Logic.{_⊎_}
 use mathlib.Core.List.{List, [], _∷_, _++_}
 use lib.Dec.{eqb}
+use Rattle.octets.specs.Numbers.{completed}
 use Rattle.arrays.specs.Every.{Every}
 use Rattle.message.specs.declared.Status.the-variants.{AtOnce, Started, Done}
-use Rattle.sequence.specs.Sequence.{stepsOf}
-use Rattle.sequence.specs.declared.Step.{Step}
+use Rattle.sequence.specs.{Sequence.stepsOf, declared.Step.Step}
 use Rattle.recording.specs.Promises.{Sound, SoundSequence}
 use Rattle.playback.specs.Promises.{Tidy}
-use Rattle.master.specs.declared.Master.{Master}
+use Rattle.master.specs.{declared.Master.Master, States.isRecording}
 use Rattle.master.specs.States as state
-use Rattle.master.specs.States.{isRecording}
-use Rattle.events.specs.Events.{Event, on, off, «record», stop, cancel, start, abort, attach, enable, disable, report, lost, indication, clientAbort, tick, answer, apply, run, Given}
+use Rattle.events.specs.Events.{Event, indication, Sort, stops, hears, ticks, answers, other, sortOf, apply, run, Given}
 use Rattle.history.specs.Log.{Entry, entryOf, entriesIn, logOf}
 use Rattle.history.specs.Steps.{isAccepted, isFinish, FirstOf, Begins, keptFrom}
 
@@ -31,7 +29,7 @@ pub record Happened (events : List Event) (x : Entry) : Type 0 where
   pub after : List Event
   pub all : events ≡ before ++ indication slot msg out ∷ after
   pub recording : isRecording (run before) ≡ true
-  pub accepted : apply (run before) (indication slot msg out) .number ≡ 0
+  pub accepted : apply (run before) (indication slot msg out) .number ≡ completed
   pub entry : x ≡ entryOf (run before) slot msg
 
 pub record Recorded (events : List Event) (s : Step) : Type 0 where
@@ -69,23 +67,15 @@ pub record Traced (log : List Entry) (s : Step) : Type 0 where
 
 -- "Record: stop goes to record complete if a step is open, else ready; record complete goes to ready when none is open": the calls by which a recording
 -- ends and is kept; "cancel, the loss or disabling of an enabled client, or tick 36,000 goes to ready and keeps the old sequence"
+abbrev pub doesKeepBy : (e : Event) → Sort e → Bool
+doesKeepBy e stops = true
+doesKeepBy e (hears slot msg out) = true
+doesKeepBy e (ticks mm out) = false
+doesKeepBy e (answers slot msg out) = false
+doesKeepBy e (other n) = false
+
 abbrev pub doesKeep : Event → Bool
-doesKeep on = false
-doesKeep off = false
-doesKeep «record» = false
-doesKeep stop = true
-doesKeep cancel = false
-doesKeep start = false
-doesKeep abort = false
-doesKeep (attach slot name pool) = false
-doesKeep (enable slot out) = false
-doesKeep (disable slot out) = false
-doesKeep (report slot number) = false
-doesKeep (lost slot) = false
-doesKeep (indication slot msg out) = true
-doesKeep (clientAbort slot msg) = false
-doesKeep (tick mm out) = false
-doesKeep (answer slot msg out) = false
+doesKeep e = doesKeepBy e (sortOf e)
 
 -- the run up to the call that ended the recording, that call, which may be its last indication, and the calls after it, which keep the sequence
 pub record KeptBy (events : List Event) : Type 0 where

@@ -1,5 +1,4 @@
 -- What a log says of steps: which indications began and finished one, and the steps of a whole log.
--- Assumes nothing: these are definitions.
 use Prim.Native.Nat.{ℕ}
 use mathlib.Core.Path.{_≡_}
 use mathlib.Core.Bool.{Bool, not, _&&_, cond}

@@ -1,5 +1,4 @@
 -- A playback in which nothing has left has no frames.
--- Assumes nothing.
 use mathlib.Core.Path.{_≡_, refl, sym}
 use mathlib.Core.List.{List}
 use Rattle.arrays.proofs.Fill.{pad-none}

@@ -1,3 +1,5 @@
 pub mod Pools
 pub mod Frames
 pub mod Reading
+pub mod Calls
+pub mod Slots

@@ -1,58 +1,71 @@
 -- 01, "Clients and states": switching on and off, attaching, enabling and disabling, reports and losses.
--- Assumes nothing: these are definitions.
 use Prim.Native.Nat.{ℕ}
-use mathlib.Core.Bool.{Bool, not, _&&_, _||_}
+use mathlib.Core.Bool.{Bool, false, not, _&&_, _||_}
 use mathlib.Core.List.{List, [], _∷_}
-use lib.Dec.{eqb, leb, ltb}
-use lib.ListN.{length}
-use Rattle.octets.specs.Pick.{pick}
-use Rattle.octets.specs.Label.{blank}
+use lib.Dec.{eqb, leb}
+use Rattle.octets.specs.{Pick.pick, Label.blank}
+use Rattle.octets.specs.Numbers.{completed, tooShort, wrongState, wrongSlot, wrongValue, notExpected, poolRefused, notDisabled}
 use Rattle.arrays.specs.Arrays.{some}
 use Rattle.pool.specs.Pool.{verdictOf}
-use Rattle.pool.specs.declared.Verdict.{Verdict}
-use Rattle.profile.specs.Profile.{keptOf}
-use Rattle.message.specs.Messages.{leftOf}
-use Rattle.message.specs.declared.Message.the-variants.{StateCommand}
-use Rattle.client.specs.Clients as client
-use Rattle.client.specs.Clients.{isTaken, isEnabled, isAwake, isNamed, blankSlot, attached, withWanted, withReport}
-use Rattle.client.specs.declared.Slot.{Slot}
+use Rattle.profile.specs.Profile.{keptOfPool}
+use Rattle.message.specs.{Messages.writtenOver, declared.Message.the-variants.StateCommand}
+use Rattle.client.specs.Clients.{disabledReport, recordReport, abortReport, isTaken, isEnabled, isAwake, isNamed, blankSlot, attached, withWanted, withReport}
+use Rattle.client.specs.declared.Client.{Client}
 use Rattle.master.specs.declared.Master.{Master}
-use Rattle.master.specs.declared.Outcome.{Outcome}
-use Rattle.master.specs.Numbers.{gives, unless, leaves, slotAt, absent, refusal}
-use Rattle.master.specs.States.{inactive, ready, abort, isInactive, isReady, isPlaying, withState, withSlot, ended, settled, brokenOff}
+use Rattle.master.specs.Call.{Call, bare, slotAt, isAbsent}
+use Rattle.master.specs.States.{inactive, ready, recording, recordComplete, playback, abort, isInactive, isReady, withState, withSlot, ended, settled}
 
 -- "Master: inactive to ready (on) .. Neither changes anything else."
-unfoldable pub onOf : Master → Outcome
-onOf m = unless (pick (isInactive m) 0 2) m (gives 0 (withState m ready))
+unfoldable pub onCall : Master → Call
+onCall m = bare (completed ∷ wrongState ∷ []) (not (isInactive m)) completed (withState m ready)
+
+unfoldable pub awake : Bool → ℕ
+awake b = pick b notDisabled completed
 
 -- "ready to inactive (off; 13 unless each attached client last reported disabled). Neither changes anything else."
-unfoldable pub offOf : Master → Outcome
-offOf m = unless (pick (isReady m) (pick (some isAwake (m .slots)) 13 0) 2) m (gives 0 (withState m inactive))
+unfoldable pub offCall : Master → Call
+offCall m =
+    bare (completed ∷ wrongState ∷ notDisabled ∷ []) (not (isReady m)) (awake (some isAwake (m .slots))) (withState m inactive)
 
--- "3: slot above 7, .. or (attaching) taken, or NAME already attached"
-abbrev pub attachRefusal : Master → ℕ → ℕ → ℕ
-attachRefusal m slot name = refusal (leb 8 slot || isTaken (slotAt m slot) || some (isNamed name) (m .slots)) (not (isReady m)) 0
-
--- "6: pool refused, with the D.9 code and object number"
-abbrev pub refusedPool : Verdict → Master → Outcome
-refusedPool v m = record { number = 6; code = v .code; object = v .object; count = 0; master = m }
+-- "6: pool refused"
+unfoldable pub unfit : ℕ → ℕ
+unfit code = pick (eqb code 0x00) completed poolRefused
 
 -- "Attaching (state ready) takes a NAME and pool and fills an empty slot, wanted off, last report disabled."
-unfoldable pub attachOf : Master → ℕ → ℕ → List ℕ → Outcome
-attachOf m slot name pool =
-    unless (attachRefusal m slot name) m
-    (pick (not (eqb (verdictOf pool .code) 0)) (refusedPool (verdictOf pool) m)
-    (gives 0 (withSlot m slot (attached name (keptOf pool)))))
+unfoldable pub attachCall : Master → ℕ → ℕ → List ℕ → Call
+attachCall m slot name pool = record {
+  numbers = completed ∷ wrongSlot ∷ wrongState ∷ poolRefused ∷ [];
+  lent = [];
+  needs = 0;
+  wrong = false;
+  -- "3: slot above 7, .. or (attaching) taken, or NAME already attached"
+  absent = leb 8 slot || (isTaken (slotAt m slot) || some (isNamed name) (m .slots));
+  barred = not (isReady m);
+  -- "6: pool refused, with the D.9 code and object number"
+  own = unfit (verdictOf pool .code);
+  code = verdictOf pool .code;
+  object = verdictOf pool .object;
+  after = withSlot m slot (attached name (keptOfPool pool));
+  count = 0;
+  written = [];
+}
 
 -- "Enabling and disabling (state ready) set wanted and write E.2, reason 01."
-abbrev pub wantRefusal : Master → ℕ → ℕ → ℕ
-wantRefusal m slot room = pick (ltb room 8) 1 (refusal (absent slot (slotAt m slot)) (not (isReady m)) 0)
-
-unfoldable pub wantOf : ℕ → Master → ℕ → ℕ → Outcome
-wantOf wanted m slot room = unless (wantRefusal m slot room) m (gives 0 (withSlot m slot (withWanted (slotAt m slot) wanted)))
-
-unfoldable pub wantOut : ℕ → Master → ℕ → List ℕ → List ℕ
-wantOut wanted m slot out = leaves (wantRefusal m slot (length out)) out (leftOf (StateCommand wanted 0x01) blank [] out)
+unfoldable pub wantCall : ℕ → Master → ℕ → List ℕ → Call
+wantCall wanted m slot out = record {
+  numbers = completed ∷ tooShort ∷ wrongSlot ∷ wrongState ∷ [];
+  lent = out;
+  needs = 8;
+  wrong = false;
+  absent = isAbsent m slot;
+  barred = not (isReady m);
+  own = completed;
+  code = 0;
+  object = 0;
+  after = withSlot m slot (withWanted (slotAt m slot) wanted);
+  count = 0;
+  written = writtenOver (StateCommand wanted 0x01) blank [] out;
+}
 
 -- "4: .. a report of no known state": F.3 numbers them 0 disabled, 1 ready, 2 record, 4 playback, 5 abort
 abbrev pub isReport : ℕ → Bool
@@ -65,42 +78,69 @@ unfoldable pub reportFrom : ℕ → ℕ
 reportFrom report = pick (isReport report) report noReport
 
 -- "A report other than disabled from a client not wanted gives 5, unless its last report was not disabled; then it is taken."
-abbrev pub isUnexpected : Slot → ℕ → Bool
-isUnexpected s report = not (eqb report client.disabled) && eqb (s .wanted) 0 && eqb (s .report) client.disabled
+abbrev pub isUnexpected : Client → ℕ → Bool
+isUnexpected s report = not (eqb report disabledReport) && eqb (s .wanted) 0 && eqb (s .report) disabledReport
 
-unfoldable pub unexpected : Slot → ℕ → ℕ
-unexpected s report = pick (isUnexpected s report) 5 0
-
-abbrev pub reportRefusal : Master → ℕ → ℕ → ℕ
-reportRefusal m slot report =
-    pick (eqb report noReport) 4 (refusal (absent slot (slotAt m slot)) (isInactive m) (unexpected (slotAt m slot) report))
+unfoldable pub unexpected : Client → ℕ → ℕ
+unexpected s report = pick (isUnexpected s report) notExpected completed
 
 -- "A lost client empties its slot; so does a wanted client that reports disabled after another report."
-abbrev pub isLeaving : Slot → ℕ → Bool
-isLeaving s report = isEnabled s && eqb report client.disabled
+unfoldable pub reportedSlot : Client → ℕ → Client
+reportedSlot s report = pick (isEnabled s && eqb report disabledReport) blankSlot (withReport s report)
 
--- "Playback goes .. to abort on .. an enabled client .. reporting record or abort"
-abbrev pub isStopping : Master → Slot → ℕ → Bool
-isStopping m s report = isPlaying m && isEnabled s && (eqb report client.recording || eqb report client.aborting)
+-- "in both, .. the loss or disabling of an enabled client .. goes to ready and keeps the old sequence"; "Playback goes .. to abort on .. an enabled client
+-- lost, disabled, or reporting record or abort"
+abbrev pub isOver : ℕ → Client → ℕ → Bool
+isOver state s report =
+    isEnabled s
+    && ((eqb state recording || eqb state recordComplete) && eqb report disabledReport
+    || eqb state playback && (eqb report disabledReport || (eqb report recordReport || eqb report abortReport)))
+
+unfoldable pub endOf : ℕ → ℕ
+endOf state = pick (eqb state playback) abort ready
+
+-- a recording or a playback that is over ends; else an abort may be left
+unfoldable pub followed : Bool → Master → Master
+followed over m = pick over (ended m (endOf (m .state))) (settled m)
 
 unfoldable pub reported : Master → ℕ → ℕ → Master
 reported m slot report =
-    let s : Slot = slotAt m slot in
-    let heard : Master = withSlot m slot (withReport s report) in
-    pick (isLeaving s report) (brokenOff (withSlot m slot blankSlot))
-    (pick (isStopping m s report) (ended heard abort)
-    (settled heard))
+    let s : Client = slotAt m slot in
+    followed (isOver (m .state) s report) (withSlot m slot (reportedSlot s report))
 
-unfoldable pub reportOf : Master → ℕ → ℕ → Outcome
-reportOf m slot number =
-    let report : ℕ = reportFrom number in
-    unless (reportRefusal m slot report) m (gives 0 (reported m slot report))
+unfoldable pub reportCall : Master → ℕ → ℕ → Call
+reportCall m slot number = record {
+  numbers = completed ∷ wrongValue ∷ wrongSlot ∷ wrongState ∷ notExpected ∷ [];
+  lent = [];
+  needs = 0;
+  -- "4: .. a report of no known state"
+  wrong = eqb (reportFrom number) noReport;
+  absent = isAbsent m slot;
+  barred = isInactive m;
+  own = unexpected (slotAt m slot) (reportFrom number);
+  code = 0;
+  object = 0;
+  after = reported m slot (reportFrom number);
+  count = 0;
+  written = [];
+}
 
--- "A lost client empties its slot"
+-- "A lost client empties its slot"; one that was enabled ends what its disabling ends
 unfoldable pub lost : Master → ℕ → Master
-lost m slot =
-    let empty : Master = withSlot m slot blankSlot in
-    pick (isEnabled (slotAt m slot)) (brokenOff empty) (settled empty)
+lost m slot = followed (isOver (m .state) (slotAt m slot) disabledReport) (withSlot m slot blankSlot)
 
-unfoldable pub lostOf : Master → ℕ → Outcome
-lostOf m slot = unless (refusal (absent slot (slotAt m slot)) (isInactive m) 0) m (gives 0 (lost m slot))
+unfoldable pub lostCall : Master → ℕ → Call
+lostCall m slot = record {
+  numbers = completed ∷ wrongSlot ∷ wrongState ∷ [];
+  lent = [];
+  needs = 0;
+  wrong = false;
+  absent = isAbsent m slot;
+  barred = isInactive m;
+  own = completed;
+  code = 0;
+  object = 0;
+  after = lost m slot;
+  count = 0;
+  written = [];
+}

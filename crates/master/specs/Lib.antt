@@ -1,4 +1,4 @@
-pub mod Numbers
+pub mod Call
 pub mod States
 pub mod Clients
 pub mod Messages

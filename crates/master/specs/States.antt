@@ -1,20 +1,15 @@
 -- 01, "Clients and states", the master's states: inactive, ready, record, record complete, playback, abort.
--- Assumes nothing: these are definitions.
 use Prim.Native.Nat.{ℕ}
 use mathlib.Core.Bool.{Bool, not, _&&_, _||_}
-use mathlib.Core.List.{List}
 use lib.Dec.{eqb, leb}
 use lib.ListN.{set, replicate}
 use Rattle.octets.specs.Pick.{pick}
 use Rattle.arrays.specs.Arrays.{some}
-use Rattle.client.specs.Clients.{isOther, aborting, blankSlot}
-use Rattle.client.specs.declared.Slot.{Slot}
-use Rattle.sequence.specs.Sequence.{blankSequence}
-use Rattle.sequence.specs.declared.Sequence.{Sequence}
-use Rattle.recording.specs.State.{blankRecording}
-use Rattle.recording.specs.declared.Recording.{Recording}
-use Rattle.playback.specs.State.{blankPlayback}
-use Rattle.playback.specs.declared.Playback.{Playback}
+use Rattle.client.specs.Clients.{isOther, abortReport, blankSlot}
+use Rattle.client.specs.declared.Client.{Client}
+use Rattle.sequence.specs.{Sequence.blankSequence, declared.Sequence.Sequence}
+use Rattle.recording.specs.{State.blankRecording, declared.Recording.Recording}
+use Rattle.playback.specs.{State.blankPlayback, declared.Playback.Playback}
 use Rattle.master.specs.declared.Master.{Master}
 
 -- a state, as F.2 numbers them; a number above 5, which no call gives, counts as abort
@@ -57,7 +52,7 @@ isAborting m = leb abort (m .state)
 abbrev pub withState : Master → ℕ → Master
 withState m state = record { state = state; tan = m .tan; slots = m .slots; sequence = m .sequence; recording = m .recording; playback = m .playback }
 
-abbrev pub withSlot : Master → ℕ → Slot → Master
+abbrev pub withSlot : Master → ℕ → Client → Master
 withSlot m slot s =
     record { state = m .state; tan = m .tan; slots = set (m .slots) slot s; sequence = m .sequence; recording = m .recording; playback = m .playback }
 
@@ -90,9 +85,4 @@ ended m state =
 
 -- "Abort goes to ready at the first later report, loss or tick where every enabled client's last report is abort."
 unfoldable pub settled : Master → Master
-settled m = pick (isAborting m && not (some (isOther aborting) (m .slots))) (withState m ready) m
-
--- "in both, cancel, the loss or disabling of an enabled client, or tick 36,000 goes to ready and keeps the old sequence"; "Playback goes .. to abort on
--- .. an enabled client lost, disabled"
-unfoldable pub brokenOff : Master → Master
-brokenOff m = pick (isRecording m) (ended m ready) (pick (isPlaying m) (ended m abort) (settled m))
+settled m = pick (isAborting m && not (some (isOther abortReport) (m .slots))) (withState m ready) m

@@ -1,171 +1,171 @@
 // On and off; clients attached, enabled, disabled, reporting and lost.
 ghost use mathlib.Core.Path.{_≡_};
-ghost use Prim.Native.Nat.{_<_};
-ghost use lib.ListN.{length};
-ghost use Rattle.master.specs.Numbers.{refusal};
-ghost use Rattle.master.specs.Clients.{reportFrom, unexpected, onOf, offOf, attachOf, wantOf, wantOut, reported, reportOf, lost, lostOf};
+ghost use Rattle.master.specs.Call.{refusal, outcomeOf, leavesOf};
+ghost use Rattle.master.specs.Clients.{reportFrom, unexpected, awake, isOver, endOf, reportedSlot, onCall, offCall, attachCall, wantCall, reportCall, lostCall};
 use crate::ABORT;
 use crate::INACTIVE;
 use crate::Master;
 use crate::Outcome;
 use crate::PLAYBACK;
 use crate::READY;
-use client::Slot;
+use crate::RECORD;
+use crate::RECORD_COMPLETE;
+use arrays::at_most;
+use client::Client;
 use client::Test;
 use client::attached;
 use client::blank_slot;
 use client::some_slot;
 use message::Message;
 use octets::label::blank;
+use octets::numbers::DONE;
+use octets::numbers::NOT_DISABLED;
+use octets::numbers::NOT_EXPECTED;
+use octets::numbers::POOL_REFUSED;
+use octets::numbers::TOO_SHORT;
+use octets::numbers::WRONG_SLOT;
+use octets::numbers::WRONG_STATE;
+use octets::numbers::WRONG_VALUE;
 use profile::kept;
+
+// The last slot. A slot above it is read as this one, and the call is refused before a rule asks for it.
+pub(crate) const LAST_SLOT: usize = 7;
 
 impl Master {
     pub fn on(mut self) -> Outcome
-        ensures { λ r. ⌜ r ≡ onOf self ⌝ }
+        ensures { λ r. ⌜ r ≡ outcomeOf self (onCall self) ⌝ }
     {
-        if self.state != INACTIVE {
-            return self.gives(2);
+        let why = refusal(false, false, false, self.state != INACTIVE, DONE);
+        if why != DONE {
+            return self.gives(why);
         }
         self.state = READY;
-        self.gives(0)
+        self.gives(DONE)
     }
 
     pub fn off(mut self) -> Outcome
-        ensures { λ r. ⌜ r ≡ offOf self ⌝ }
+        ensures { λ r. ⌜ r ≡ outcomeOf self (offCall self) ⌝ }
     {
-        if self.state != READY {
-            return self.gives(2);
-        }
         let slots = self.slots;
-        if some_slot(slots, Test::Awake) {
-            return self.gives(13);
+        let own = awake(some_slot(slots, Test::Awake));
+        let why = refusal(false, false, false, self.state != READY, own);
+        if why != DONE {
+            return self.gives(why);
         }
         self.state = INACTIVE;
-        self.gives(0)
+        self.gives(DONE)
     }
 
-    // A client that is not yet here, with its pool; the pool's bytes stay with the host.
+    // A client that is not yet here, with its pool; the pool's bytes stay with the host. A pool is judged only where nothing else refuses it.
     pub fn attach(mut self, slot: usize, name: u64, pool: &[u8]) -> Outcome
-        ensures { λ r. ⌜ r ≡ attachOf self slot name (now (pool .entry)) ⌝ }
+        ensures { λ r. ⌜ r ≡ outcomeOf self (attachCall self slot name (now (pool .entry))) ⌝ }
     {
-        if 8 <= slot {
-            return self.gives(3);
-        }
+        let at = at_most(slot, LAST_SLOT);
+        let taken = self.slots[at].taken;
         let slots = self.slots;
-        let unfit = slots[slot].is_taken() | some_slot(slots, Test::Named(name));
-        let why = refusal(unfit, self.state != READY, 0);
-        if why != 0 {
+        let absent = (8 <= slot) | ((taken != 0) | some_slot(slots, Test::Named(name)));
+        let why = refusal(false, false, absent, self.state != READY, DONE);
+        if why != DONE {
             return self.gives(why);
         }
         let verdict = pool::check(pool);
         if verdict.code != 0 {
             return Outcome {
-                number: 6,
+                number: POOL_REFUSED,
                 code: verdict.code,
                 object: verdict.object,
                 count: 0,
                 master: self,
             };
         }
-        self.slots[slot] = attached(name, kept(pool));
-        self.gives(0)
+        let kept = kept(pool);
+        self.slots[at] = attached(name, kept);
+        self.gives(DONE)
     }
 
     // Writes E.2, 8 bytes.
     pub fn enable(mut self, slot: usize, out: &mut [u8]) -> Outcome
-        ensures { λ r. ⌜ r ≡ wantOf 1 self slot (length (now (out .entry))) ⌝ }
-        ensures { λ _. ⌜ now (out .exit) ≡ wantOut 1 self slot (now (out .entry)) ⌝ }
+        ensures { λ r. ⌜ r ≡ outcomeOf self (wantCall 1 self slot (now (out .entry))) ⌝ }
+        ensures { λ _. ⌜ now (out .exit) ≡ leavesOf (wantCall 1 self slot (now (out .entry))) ⌝ }
     {
         self.want(1, slot, out)
     }
 
     // Writes E.2, 8 bytes.
     pub fn disable(mut self, slot: usize, out: &mut [u8]) -> Outcome
-        ensures { λ r. ⌜ r ≡ wantOf 0 self slot (length (now (out .entry))) ⌝ }
-        ensures { λ _. ⌜ now (out .exit) ≡ wantOut 0 self slot (now (out .entry)) ⌝ }
+        ensures { λ r. ⌜ r ≡ outcomeOf self (wantCall 0 self slot (now (out .entry))) ⌝ }
+        ensures { λ _. ⌜ now (out .exit) ≡ leavesOf (wantCall 0 self slot (now (out .entry))) ⌝ }
     {
         self.want(0, slot, out)
     }
 
     fn want(mut self, wanted: u8, slot: usize, out: &mut [u8]) -> Outcome
-        ensures { λ r. ⌜ r ≡ wantOf wanted self slot (length (now (out .entry))) ⌝ }
-        ensures { λ _. ⌜ now (out .exit) ≡ wantOut wanted self slot (now (out .entry)) ⌝ }
+        ensures { λ r. ⌜ r ≡ outcomeOf self (wantCall wanted self slot (now (out .entry))) ⌝ }
+        ensures { λ _. ⌜ now (out .exit) ≡ leavesOf (wantCall wanted self slot (now (out .entry))) ⌝ }
     {
-        if out.len() < 8 {
-            return self.gives(1);
-        }
-        if 8 <= slot {
-            return self.gives(3);
-        }
-        let client = self.slots[slot];
-        let why = refusal(!client.is_taken(), self.state != READY, 0);
-        if why != 0 {
+        let at = at_most(slot, LAST_SLOT);
+        let client = self.slots[at];
+        let why = refusal(
+            out.len() < 8,
+            false,
+            (8 <= slot) | !client.is_taken(),
+            self.state != READY,
+            DONE,
+        );
+        if why != DONE {
             return self.gives(why);
         }
-        let message = Message::StateCommand(wanted, 1);
-        message::write(message, blank(), out);
-        self.slots[slot] = client.with_wanted(wanted);
-        self.gives(0)
+        message::write(Message::StateCommand(wanted, 1), blank(), out);
+        self.slots[at] = client.with_wanted(wanted);
+        self.gives(DONE)
     }
 
     // The state that a client reports, as F.3 numbers them.
     pub fn report(mut self, slot: usize, report: u32) -> Outcome
-        ensures { λ r. ⌜ r ≡ reportOf self slot report ⌝ }
+        ensures { λ r. ⌜ r ≡ outcomeOf self (reportCall self slot report) ⌝ }
     {
         let known = report_from(report);
-        if known == NO_REPORT {
-            return self.gives(4);
-        }
-        if 8 <= slot {
-            return self.gives(3);
-        }
-        let client = self.slots[slot];
-        let rest = unexpected(client, known);
-        let why = refusal(!client.is_taken(), self.state == INACTIVE, rest);
-        if why != 0 {
+        let at = at_most(slot, LAST_SLOT);
+        let client = self.slots[at];
+        let own = unexpected(client, known);
+        let why = refusal(
+            false,
+            known == NO_REPORT,
+            (8 <= slot) | !client.is_taken(),
+            self.state == INACTIVE,
+            own,
+        );
+        if why != DONE {
             return self.gives(why);
         }
-        self.reported(slot, known).gives(0)
+        self.slots[at] = reported_slot(client, known);
+        if is_over(self.state, client, known) {
+            return self.ended(end_of(self.state)).gives(DONE);
+        }
+        self.settled().gives(DONE)
     }
 
-    // A report that is taken.
-    fn reported(mut self, slot: usize, report: u8) -> Master
-        requires { ⌜ slot < 8 ⌝ }
-        ensures { λ r. ⌜ r ≡ reported self slot report ⌝ }
-    {
-        let client = self.slots[slot];
-        let enabled = client.is_enabled();
-        if enabled & (report == client::DISABLED) {
-            self.slots[slot] = blank_slot();
-            return self.broken_off();
-        }
-        self.slots[slot] = client.with_report(report);
-        if (self.state == PLAYBACK)
-            & enabled
-            & ((report == client::RECORD) | (report == client::ABORT))
-        {
-            return self.ended(ABORT);
-        }
-        self.settled()
-    }
-
-    // A client that is gone.
+    // A client that is gone is one that reports disabled, or was not enabled.
     pub fn lost(mut self, slot: usize) -> Outcome
-        ensures { λ r. ⌜ r ≡ lostOf self slot ⌝ }
+        ensures { λ r. ⌜ r ≡ outcomeOf self (lostCall self slot) ⌝ }
     {
-        if 8 <= slot {
-            return self.gives(3);
-        }
-        let client = self.slots[slot];
-        let why = refusal(!client.is_taken(), self.state == INACTIVE, 0);
-        if why != 0 {
+        let at = at_most(slot, LAST_SLOT);
+        let client = self.slots[at];
+        let why = refusal(
+            false,
+            false,
+            (8 <= slot) | !client.is_taken(),
+            self.state == INACTIVE,
+            DONE,
+        );
+        if why != DONE {
             return self.gives(why);
         }
-        self.slots[slot] = blank_slot();
-        if client.is_enabled() {
-            return self.broken_off().gives(0);
+        self.slots[at] = blank_slot();
+        if is_over(self.state, client, client::DISABLED) {
+            return self.ended(end_of(self.state)).gives(DONE);
         }
-        self.settled().gives(0)
+        self.settled().gives(DONE)
     }
 }
 
@@ -186,24 +186,70 @@ fn report_from(report: u32) -> u8
 }
 
 // 5 for a report that a client may not send now, else 0.
-fn unexpected(client: Slot, report: u8) -> u8
+fn unexpected(client: Client, report: u8) -> u8
     ensures { λ r. ⌜ r ≡ unexpected client report ⌝ }
 {
     if (report != client::DISABLED) & (client.wanted == 0) & (client.report == client::DISABLED) {
-        return 5;
+        return NOT_EXPECTED;
     }
-    0
+    DONE
 }
 
-// Why a call on a slot is refused: no such client, then not in this state, then what the call's own rule gives.
-pub(crate) fn refusal(absent: bool, barred: bool, rest: u8) -> u8
-    ensures { λ r. ⌜ r ≡ refusal absent barred rest ⌝ }
+// The slot of a client that has reported: empty where an enabled one reports disabled.
+fn reported_slot(client: Client, report: u8) -> Client
+    ensures { λ r. ⌜ r ≡ reportedSlot client report ⌝ }
 {
+    if client.is_enabled() & (report == client::DISABLED) {
+        return blank_slot();
+    }
+    client.with_report(report)
+}
+
+// The report of an enabled client ends a recording or a playback.
+fn is_over(state: u8, client: Client, report: u8) -> bool
+    ensures { λ r. ⌜ r ≡ isOver state client report ⌝ }
+{
+    let recording = (state == RECORD) | (state == RECORD_COMPLETE);
+    let stops = (report == client::RECORD) | (report == client::ABORT);
+    let gone = report == client::DISABLED;
+    client.is_enabled() & ((recording & gone) | ((state == PLAYBACK) & (gone | stops)))
+}
+
+// The state to which it goes then.
+fn end_of(state: u8) -> u8
+    ensures { λ r. ⌜ r ≡ endOf state ⌝ }
+{
+    if state == PLAYBACK {
+        return ABORT;
+    }
+    READY
+}
+
+// 13 where a client is not yet disabled, else 0.
+fn awake(some: bool) -> u8
+    ensures { λ r. ⌜ r ≡ awake some ⌝ }
+{
+    if some {
+        return NOT_DISABLED;
+    }
+    DONE
+}
+
+// Why a call is refused, 0 where it is not: lent too few bytes, a wrong input, no such client, not in this state, then what the call's own rule gives.
+pub(crate) fn refusal(short: bool, wrong: bool, absent: bool, barred: bool, own: u8) -> u8
+    ensures { λ r. ⌜ r ≡ refusal short wrong absent barred own ⌝ }
+{
+    if short {
+        return TOO_SHORT;
+    }
+    if wrong {
+        return WRONG_VALUE;
+    }
     if absent {
-        return 3;
+        return WRONG_SLOT;
     }
     if barred {
-        return 2;
+        return WRONG_STATE;
     }
-    rest
+    own
 }

@@ -2,9 +2,11 @@
 ghost use mathlib.Core.Path.{_≡_};
 ghost use Prim.Native.Nat.{_<_, _≤_};
 ghost use lib.ListN.{length};
-ghost use Rattle.master.specs.Numbers.{gives};
-ghost use Rattle.master.specs.States.{newMaster, ended, settled, brokenOff};
-use client::Slot;
+ghost use Rattle.recording.specs.State.{blankRecording};
+ghost use Rattle.playback.specs.State.{blankPlayback};
+ghost use Rattle.master.specs.Call.{gives};
+ghost use Rattle.master.specs.States.{newMaster, ended, settled};
+use client::Client;
 use client::Test;
 use client::blank_slot;
 use client::some_slot;
@@ -40,7 +42,7 @@ pub const ABORT: u8 = 5;
 pub struct Master {
     pub state: u8,
     pub tan: u8,
-    pub slots: [Slot; 8],
+    pub slots: [Client; 8],
     pub sequence: Sequence,
     pub recording: Recording,
     pub playback: Playback,
@@ -56,10 +58,21 @@ pub struct Outcome {
     pub master: Master,
 }
 
-// What an E.4 does: the error of E.5, and the master after it.
-pub(crate) struct Hearing {
-    pub(crate) error: u8,
-    pub(crate) master: Master,
+// Neither a recording nor a playback. It has several callers, so that it is not inlined and the small methods around it are: no master is copied for it.
+pub(crate) struct Blank {
+    pub(crate) recording: Recording,
+    pub(crate) playback: Playback,
+}
+
+pub(crate) fn blank_parts() -> Blank
+    ensures { λ r. ⌜ (r .recording ≡ blankRecording) × (r .playback ≡ blankPlayback) ⌝ }
+{
+    let recording = blank_recording();
+    let playback = blank_playback();
+    Blank {
+        recording,
+        playback,
+    }
 }
 
 impl Master {
@@ -69,8 +82,9 @@ impl Master {
         let slot = blank_slot();
         let slots = [slot; 8];
         let sequence = blank_sequence();
-        let recording = blank_recording();
-        let playback = blank_playback();
+        let none = blank_parts();
+        let recording = none.recording;
+        let playback = none.playback;
         Master {
             state: INACTIVE,
             tan: 0,
@@ -97,9 +111,12 @@ impl Master {
     pub(crate) fn ended(mut self, state: u8) -> Master
         ensures { λ r. ⌜ r ≡ ended self state ⌝ }
     {
+        let none = blank_parts();
+        let recording = none.recording;
+        let playback = none.playback;
         self.state = state;
-        self.recording = blank_recording();
-        self.playback = blank_playback();
+        self.recording = recording;
+        self.playback = playback;
         self
     }
 
@@ -112,18 +129,5 @@ impl Master {
             self.state = READY;
         }
         self
-    }
-
-    // An enabled client is gone.
-    pub(crate) fn broken_off(self) -> Master
-        ensures { λ r. ⌜ r ≡ brokenOff self ⌝ }
-    {
-        if (self.state == RECORD) | (self.state == RECORD_COMPLETE) {
-            return self.ended(READY);
-        }
-        if self.state == PLAYBACK {
-            return self.ended(ABORT);
-        }
-        self.settled()
     }
 }

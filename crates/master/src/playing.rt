@@ -1,81 +1,99 @@
 // The way into a playback and out of it, E.3 and E.7.
 ghost use mathlib.Core.Path.{_≡_};
-ghost use lib.ListN.{length};
-ghost use Rattle.master.specs.Playback.{startOf, abortOf, unheeded, clientAbortOf, unmatched, replied, answerOf, answerOut};
+ghost use Rattle.master.specs.Call.{numberOf, outcomeOf, leavesOf};
+ghost use Rattle.master.specs.Playback.{startCall, abortCall, unheeded, clientAbortCall, unmatched, replied, answerCall};
 use crate::ABORT;
 use crate::INACTIVE;
 use crate::Master;
 use crate::Outcome;
 use crate::PLAYBACK;
 use crate::READY;
+use crate::clients::LAST_SLOT;
 use crate::clients::refusal;
-use crate::messages::ANSWER;
-use crate::messages::CLIENT_ABORT;
 use crate::messages::octet;
-use crate::messages::reply_from;
 use crate::messages::write_receipt;
-use client::Slot;
+use arrays::at_most;
+use client::Client;
+use flat::kinds::ANSWER;
+use flat::kinds::CLIENT_ABORT;
+use flat::reply_from;
+use message::CLIENT;
+use octets::numbers::DONE;
+use octets::numbers::NO_MATCH;
+use octets::numbers::NOT_EXPECTED;
 use playback::Answered;
+use playback::TO_ABORT;
+use playback::TO_READY;
 use playback::blank_playback;
 use playback::verify;
 
 impl Master {
-    pub fn start(mut self) -> Outcome
-        ensures { λ r. ⌜ r ≡ startOf self ⌝ }
+    // Why a start is refused, 0 where it is not: the sequence is verified only where the state allows it.
+    fn start_refusal(self) -> u8
+        ensures { λ r. ⌜ r ≡ numberOf (startCall self) ⌝ }
     {
-        if self.state != READY {
-            return self.gives(2);
+        let why = refusal(false, false, false, self.state != READY, DONE);
+        if why != DONE {
+            return why;
         }
         let slots = self.slots;
         let sequence = self.sequence;
-        let why = verify(slots, sequence);
-        if why != 0 {
+        verify(slots, sequence)
+    }
+
+    pub fn start(mut self) -> Outcome
+        ensures { λ r. ⌜ r ≡ outcomeOf self (startCall self) ⌝ }
+    {
+        let why = self.start_refusal();
+        if why != DONE {
             return self.gives(why);
         }
         self.playback = blank_playback();
         self.state = PLAYBACK;
-        self.gives(0)
+        self.gives(DONE)
     }
 
     // The operator's word.
     pub fn abort(mut self) -> Outcome
-        ensures { λ r. ⌜ r ≡ abortOf self ⌝ }
+        ensures { λ r. ⌜ r ≡ outcomeOf self (abortCall self) ⌝ }
     {
-        if self.state == PLAYBACK {
-            return self.ended(ABORT).gives(0);
+        let why = refusal(false, false, false, self.state != PLAYBACK, DONE);
+        if why != DONE {
+            return self.gives(why);
         }
-        self.gives(2)
+        self.ended(ABORT).gives(DONE)
     }
 
     // E.3.
     pub fn client_abort(mut self, slot: usize, msg: &[u8]) -> Outcome
-        ensures { λ r. ⌜ r ≡ clientAbortOf self slot (now (msg .entry)) ⌝ }
+        ensures { λ r. ⌜ r ≡ outcomeOf self (clientAbortCall self slot (now (msg .entry))) ⌝ }
     {
-        let reading = flat::read(0, msg);
+        let reading = flat::read(CLIENT, msg);
         let message = reading.message;
-        if message.kind != CLIENT_ABORT {
-            return self.gives(4);
-        }
-        if 8 <= slot {
-            return self.gives(3);
-        }
-        let client = self.slots[slot];
-        let rest = unheeded(self.state, client);
-        let why = refusal(!client.is_taken(), self.state == INACTIVE, rest);
-        if why != 0 {
+        let at = at_most(slot, LAST_SLOT);
+        let client = self.slots[at];
+        let own = unheeded(self.state, client);
+        let why = refusal(
+            false,
+            message.kind != CLIENT_ABORT,
+            (8 <= slot) | !client.is_taken(),
+            self.state == INACTIVE,
+            own,
+        );
+        if why != DONE {
             return self.gives(why);
         }
-        self.ended(ABORT).gives(0)
+        self.ended(ABORT).gives(DONE)
     }
 
     // An answer that matches a sent step.
     fn replied(mut self, answered: Answered) -> Master
         ensures { λ r. ⌜ r ≡ replied self answered ⌝ }
     {
-        if answered.over == 1 {
+        if answered.end == TO_READY {
             return self.ended(READY);
         }
-        if answered.over == 2 {
+        if answered.end == TO_ABORT {
             return self.ended(ABORT);
         }
         let playback = answered.playback;
@@ -85,43 +103,41 @@ impl Master {
 
     // E.7 in, E.8 out, 8 bytes.
     pub fn answer(mut self, slot: usize, msg: &[u8], out: &mut [u8]) -> Outcome
-        ensures { λ r. ⌜ r ≡ answerOf self slot (now (msg .entry)) (length (now (out .entry))) ⌝ }
-        ensures { λ _. ⌜ now (out .exit) ≡ answerOut self slot (now (msg .entry)) (now (out .entry)) ⌝ }
+        ensures { λ r. ⌜ r ≡ outcomeOf self (answerCall self slot (now (msg .entry)) (now (out .entry))) ⌝ }
+        ensures { λ _. ⌜ now (out .exit) ≡ leavesOf (answerCall self slot (now (msg .entry)) (now (out .entry))) ⌝ }
     {
-        if out.len() < 8 {
-            return self.gives(1);
-        }
-        let reading = flat::read(0, msg);
+        let reading = flat::read(CLIENT, msg);
         let message = reading.message;
-        if message.kind != ANSWER {
-            return self.gives(4);
-        }
-        if 8 <= slot {
-            return self.gives(3);
-        }
-        let client = self.slots[slot];
+        let at = at_most(slot, LAST_SLOT);
+        let client = self.slots[at];
         let reply = reply_from(message.step);
         let playback = self.playback;
         let sequence = self.sequence;
         let answered = playback.answer(sequence, octet(slot), reply);
-        let rest = unmatched(self.state, answered.number);
-        let why = refusal(!client.is_taken(), self.state == INACTIVE, rest);
-        if why != 0 {
+        let own = unmatched(self.state, answered.number);
+        let why = refusal(
+            out.len() < 8,
+            message.kind != ANSWER,
+            (8 <= slot) | !client.is_taken(),
+            self.state == INACTIVE,
+            own,
+        );
+        if why != DONE {
             return self.gives(why);
         }
         write_receipt(reply, out);
-        self.replied(answered).gives(0)
+        self.replied(answered).gives(DONE)
     }
 }
 
 // 5 for an E.3 that does not abort, else 0.
-fn unheeded(state: u8, client: Slot) -> u8
+fn unheeded(state: u8, client: Client) -> u8
     ensures { λ r. ⌜ r ≡ unheeded state client ⌝ }
 {
     if (state == PLAYBACK) & client.is_enabled() {
-        return 0;
+        return DONE;
     }
-    5
+    NOT_EXPECTED
 }
 
 // Outside playback no step counts as sent.
@@ -131,5 +147,5 @@ fn unmatched(state: u8, number: u8) -> u8
     if state == PLAYBACK {
         return number;
     }
-    15
+    NO_MATCH
 }

@@ -4,8 +4,10 @@ ghost use Rattle.sequence.specs.Sequence.{lengthOf};
 ghost use Rattle.master.specs.Readers.{stateOf, slotView, stepView, clientView};
 use crate::ABORT;
 use crate::Master;
-use client::Client;
-use client::blank_client;
+use client::ClientRecord;
+use client::blank_record;
+use octets::numbers::DONE;
+use octets::numbers::WRONG_SLOT;
 use sequence::Step;
 use sequence::blank_step;
 
@@ -30,7 +32,7 @@ pub struct StepView {
 #[repr(C)]
 pub struct ClientView {
     pub number: u8,
-    pub client: Client,
+    pub client: ClientRecord,
 }
 
 impl Master {
@@ -50,7 +52,7 @@ impl Master {
     {
         if 8 <= slot {
             return SlotView {
-                number: 3,
+                number: WRONG_SLOT,
                 taken: 0,
                 wanted: 0,
                 report: 0,
@@ -59,7 +61,7 @@ impl Master {
         }
         let s = self.slots[slot];
         SlotView {
-            number: 0,
+            number: DONE,
             taken: s.taken,
             wanted: s.wanted,
             report: s.report,
@@ -84,12 +86,12 @@ impl Master {
         if count <= i {
             let none = blank_step();
             return StepView {
-                number: 3,
+                number: WRONG_SLOT,
                 step: none,
             };
         }
         let step = sequence.steps[i];
-        StepView { number: 0, step }
+        StepView { number: DONE, step }
     }
 
     // The record of a slot's client in the sequence.
@@ -97,14 +99,17 @@ impl Master {
         ensures { λ r. ⌜ r ≡ clientView self slot ⌝ }
     {
         if 8 <= slot {
-            let none = blank_client();
+            let none = blank_record();
             return ClientView {
-                number: 3,
+                number: WRONG_SLOT,
                 client: none,
             };
         }
         let sequence = self.sequence;
-        let client = sequence.clients[slot];
-        ClientView { number: 0, client }
+        let client = sequence.records[slot];
+        ClientView {
+            number: DONE,
+            client,
+        }
     }
 }

@@ -1,10 +1,9 @@
 // The way into a recording and out of it, and E.4.
 ghost use mathlib.Core.Path.{_≡_};
-ghost use Prim.Native.Nat.{_<_};
-ghost use lib.ListN.{length};
-ghost use Rattle.master.specs.Recording.{recordRefusal, recordOf, finished, stopOf, cancelOf, untimely, recorded, interrupted, heard, indicationOf, indicationOut};
+ghost use Rattle.master.specs.Call.{outcomeOf, leavesOf, gives};
+ghost use Rattle.master.specs.Messages.{responseOut};
+ghost use Rattle.master.specs.Recording.{unready, recordCall, stopped, stopCall, cancelCall, untimely, recorded, interrupted, recordingHeard, indicationCall};
 use crate::ABORT;
-use crate::Hearing;
 use crate::INACTIVE;
 use crate::Master;
 use crate::Outcome;
@@ -12,172 +11,173 @@ use crate::PLAYBACK;
 use crate::READY;
 use crate::RECORD;
 use crate::RECORD_COMPLETE;
+use crate::blank_parts;
+use crate::clients::LAST_SLOT;
 use crate::clients::refusal;
-use crate::messages::INDICATION;
-use crate::messages::execution_from;
 use crate::messages::octet;
 use crate::messages::write_response;
-use client::Slot;
+use arrays::at_most;
+use client::Client;
 use client::Test;
 use client::some_slot;
+use flat::execution_from;
+use flat::kinds::INDICATION;
+use message::CLIENT;
 use message::Execution;
-use message::fields::number_of;
+use message::fields::status_number;
+use octets::numbers::DONE;
+use octets::numbers::NONE_ENABLED;
+use octets::numbers::NOT_EXPECTED;
+use octets::numbers::NOT_READY;
 use playback::has_function;
-use recording::Recording;
-use recording::blank_recording;
 
 impl Master {
-    fn record_refusal(self) -> u8
-        ensures { λ r. ⌜ r ≡ recordRefusal self ⌝ }
-    {
-        if self.state != READY {
-            return 2;
-        }
-        let slots = self.slots;
-        if !some_slot(slots, Test::Other(client::DISABLED)) {
-            return 14;
-        }
-        if some_slot(slots, Test::Other(client::READY)) {
-            return 12;
-        }
-        0
-    }
-
     pub fn record(mut self) -> Outcome
-        ensures { λ r. ⌜ r ≡ recordOf self ⌝ }
+        ensures { λ r. ⌜ r ≡ outcomeOf self (recordCall self) ⌝ }
     {
-        let why = self.record_refusal();
-        if why != 0 {
+        let slots = self.slots;
+        let own = unready(
+            some_slot(slots, Test::Enabled),
+            some_slot(slots, Test::Other(client::READY)),
+        );
+        let why = refusal(false, false, false, self.state != READY, own);
+        if why != DONE {
             return self.gives(why);
         }
-        self.recording = blank_recording();
+        let none = blank_parts();
+        let recording = none.recording;
+        self.recording = recording;
         self.state = RECORD;
-        self.gives(0)
+        self.gives(DONE)
     }
 
-    // What stays of the recording is the sequence.
-    fn finished(mut self) -> Master
-        ensures { λ r. ⌜ r ≡ finished self ⌝ }
+    // A recording that is stopped.
+    fn stopped(mut self) -> Master
+        ensures { λ r. ⌜ r ≡ stopped self ⌝ }
     {
         let recording = self.recording;
+        if recording.has_open() {
+            self.state = RECORD_COMPLETE;
+            return self;
+        }
+        // What stays of the recording is the sequence.
         let sequence = self.sequence;
-        self.sequence = recording.kept(sequence);
+        let kept = recording.kept(sequence);
+        self.sequence = kept;
         self.ended(READY)
     }
 
     pub fn stop(mut self) -> Outcome
-        ensures { λ r. ⌜ r ≡ stopOf self ⌝ }
+        ensures { λ r. ⌜ r ≡ outcomeOf self (stopCall self) ⌝ }
     {
-        if self.state != RECORD {
-            return self.gives(2);
+        let why = refusal(false, false, false, self.state != RECORD, DONE);
+        if why != DONE {
+            return self.gives(why);
         }
-        let recording = self.recording;
-        if recording.has_open() {
-            self.state = RECORD_COMPLETE;
-            return self.gives(0);
-        }
-        self.finished().gives(0)
+        self.stopped().gives(DONE)
     }
 
     pub fn cancel(mut self) -> Outcome
-        ensures { λ r. ⌜ r ≡ cancelOf self ⌝ }
+        ensures { λ r. ⌜ r ≡ outcomeOf self (cancelCall self) ⌝ }
     {
-        if (self.state == RECORD) | (self.state == RECORD_COMPLETE) {
-            return self.ended(READY).gives(0);
+        let recording = (self.state == RECORD) | (self.state == RECORD_COMPLETE);
+        let why = refusal(false, false, false, !recording, DONE);
+        if why != DONE {
+            return self.gives(why);
         }
-        self.gives(2)
-    }
-
-    // The recording after a message; record complete ends where no step is open any more.
-    fn recorded(mut self, recording: Recording) -> Master
-        ensures { λ r. ⌜ r ≡ recorded self recording ⌝ }
-    {
-        let over = (self.state == RECORD_COMPLETE) & !recording.has_open();
-        self.recording = recording;
-        if over {
-            return self.finished();
-        }
-        self
+        self.ended(READY).gives(DONE)
     }
 
     // An operator's hand on a function during playback.
-    fn interrupted(self, slot: u8, function: u8) -> Hearing
-        ensures { λ r. ⌜ r ≡ interrupted self slot function ⌝ }
+    fn interrupted(mut self, slot: u8, e: Execution, out: &mut [u8]) -> Outcome
+        ensures { λ r. ⌜ r ≡ gives 0 (interrupted self slot (e .function) .master) ⌝ }
+        ensures { λ _. ⌜ now (out .exit) ≡ responseOut e (interrupted self slot (e .function) .error) (now (out .entry)) ⌝ }
     {
         let sequence = self.sequence;
-        if has_function(sequence, slot, function) {
-            return Hearing {
-                error: 0x06,
-                master: self.ended(ABORT),
-            };
+        if has_function(sequence, slot, e.function) {
+            write_response(e, 0x06, out);
+            return self.ended(ABORT).gives(DONE);
         }
-        Hearing {
-            error: 0xFF,
-            master: self,
-        }
+        write_response(e, 0xFF, out);
+        self.gives(DONE)
     }
 
-    // An E.4 that is not refused.
-    fn heard(self, slot: u8, client: Slot, e: Execution) -> Hearing
-        ensures { λ r. ⌜ r ≡ heard self slot client e ⌝ }
+    // An E.4 that counts; record complete ends where no step is open any more.
+    fn recorded(mut self, slot: u8, client: Client, e: Execution, out: &mut [u8]) -> Outcome
+        ensures { λ r. ⌜ r ≡ gives 0 (recorded self (recordingHeard self slot client e .recording)) ⌝ }
+        ensures { λ _. ⌜ now (out .exit) ≡ responseOut e (recordingHeard self slot client e .error) (now (out .entry)) ⌝ }
     {
-        if self.state == PLAYBACK {
-            return self.interrupted(slot, e.function);
-        }
         let recording = self.recording;
         let answer = recording.heard(slot, client, self.state == RECORD_COMPLETE, e);
+        write_response(e, answer.error, out);
         let after = answer.recording;
-        Hearing {
-            error: answer.error,
-            master: self.recorded(after),
+        let over = (self.state == RECORD_COMPLETE) & !after.has_open();
+        self.recording = after;
+        if over {
+            let sequence = self.sequence;
+            let kept = after.kept(sequence);
+            self.sequence = kept;
+            return self.ended(READY).gives(DONE);
         }
+        self.gives(DONE)
     }
 
     // E.4 in, E.5 out, 8 bytes.
     pub fn indication(mut self, slot: usize, msg: &[u8], out: &mut [u8]) -> Outcome
-        ensures { λ r. ⌜ r ≡ indicationOf self slot (now (msg .entry)) (length (now (out .entry))) ⌝ }
-        ensures { λ _. ⌜ now (out .exit) ≡ indicationOut self slot (now (msg .entry)) (now (out .entry)) ⌝ }
+        ensures { λ r. ⌜ r ≡ outcomeOf self (indicationCall self slot (now (msg .entry)) (now (out .entry))) ⌝ }
+        ensures { λ _. ⌜ now (out .exit) ≡ leavesOf (indicationCall self slot (now (msg .entry)) (now (out .entry))) ⌝ }
     {
-        if out.len() < 8 {
-            return self.gives(1);
-        }
-        let reading = flat::read(0, msg);
+        let reading = flat::read(CLIENT, msg);
         let message = reading.message;
-        if message.kind != INDICATION {
-            return self.gives(4);
-        }
-        if 8 <= slot {
-            return self.gives(3);
-        }
-        let client = self.slots[slot];
+        let at = at_most(slot, LAST_SLOT);
+        let client = self.slots[at];
         let e = execution_from(message.step);
-        let rest = untimely(self.state, client, e);
-        let why = refusal(!client.is_taken(), self.state == INACTIVE, rest);
-        if why != 0 {
+        let own = untimely(self.state, client, e);
+        let why = refusal(
+            out.len() < 8,
+            message.kind != INDICATION,
+            (8 <= slot) | !client.is_taken(),
+            self.state == INACTIVE,
+            own,
+        );
+        if why != DONE {
             return self.gives(why);
         }
-        let hearing = self.heard(octet(slot), client, e);
-        write_response(e, hearing.error, out);
-        let after = hearing.master;
-        after.gives(0)
+        if self.state == PLAYBACK {
+            return self.interrupted(octet(slot), e, out);
+        }
+        self.recorded(octet(slot), client, e, out)
     }
 }
 
+// 14 without an enabled client, 12 where one reports another state than ready, else 0.
+fn unready(enabled: bool, other: bool) -> u8
+    ensures { λ r. ⌜ r ≡ unready enabled other ⌝ }
+{
+    if !enabled {
+        return NONE_ENABLED;
+    }
+    if other {
+        return NOT_READY;
+    }
+    DONE
+}
+
 // 5 for an E.4 that does not count, else 0.
-fn untimely(state: u8, client: Slot, e: Execution) -> u8
+fn untimely(state: u8, client: Client, e: Execution) -> u8
     ensures { λ r. ⌜ r ≡ untimely state client e ⌝ }
 {
     let enabled = client.is_enabled();
     let status = e.status;
-    let number = number_of(status);
+    let number = status_number(status);
     if ((state == RECORD) | (state == RECORD_COMPLETE))
         & enabled
         & (client.report == client::RECORD)
     {
-        return 0;
+        return DONE;
     }
     if (state == PLAYBACK) & enabled & (number == 0b11) {
-        return 0;
+        return DONE;
     }
-    5
+    NOT_EXPECTED
 }

@@ -3,7 +3,8 @@ ghost use mathlib.Core.Path.{_≡_};
 ghost use mathlib.Core.List.{_++_};
 ghost use Prim.Native.Nat.{_≤_};
 ghost use lib.ListN.{length, drop};
-ghost use Rattle.master.specs.Tick.{tickOf, tickOut, recordingTicked, playbackTicked, ticked, framesIn, countIn};
+ghost use Rattle.master.specs.Call.{outcomeOf, leavesOf};
+ghost use Rattle.master.specs.Tick.{tickCall, recordingTicked, playbackTicked, ticked, framesIn, countIn};
 use crate::ABORT;
 use crate::INACTIVE;
 use crate::Master;
@@ -12,11 +13,12 @@ use crate::PLAYBACK;
 use crate::READY;
 use crate::RECORD;
 use crate::RECORD_COMPLETE;
+use crate::clients::refusal;
+use octets::numbers::DONE;
+use playback::GOES_ON;
 use playback::blank_playback;
 use playback::frames;
-
-// The tick at which a recording or a playback is broken off.
-const LAST: u32 = 36000;
+use sequence::LAST_TICK;
 
 impl Master {
     fn recording_ticked(mut self, mm: u32) -> Master
@@ -24,7 +26,7 @@ impl Master {
     {
         let recording = self.recording;
         let counted = recording.counted(mm);
-        if LAST <= counted.ticks {
+        if LAST_TICK <= counted.ticks {
             return self.ended(READY);
         }
         self.recording = counted;
@@ -37,7 +39,7 @@ impl Master {
         let playback = self.playback;
         let sequence = self.sequence;
         let t = playback.tick(sequence, self.tan, mm);
-        if t.ended != 0 {
+        if t.end != GOES_ON {
             return self.ended(ABORT);
         }
         let after = t.playback;
@@ -74,22 +76,23 @@ impl Master {
 
     // Fills 576 bytes: nine to a frame, the slot and E.6.
     pub fn tick(mut self, mm: u32, out: &mut [u8]) -> Outcome
-        ensures { λ r. ⌜ r ≡ tickOf self mm (length (now (out .entry))) ⌝ }
-        ensures { λ _. ⌜ now (out .exit) ≡ tickOut self mm (now (out .entry)) ⌝ }
+        ensures { λ r. ⌜ r ≡ outcomeOf self (tickCall self mm (now (out .entry))) ⌝ }
+        ensures { λ _. ⌜ now (out .exit) ≡ leavesOf (tickCall self mm (now (out .entry))) ⌝ }
     {
-        if out.len() < 576 {
-            return self.gives(1);
-        }
-        if 65535 < mm {
-            return self.gives(4);
-        }
-        if self.state == INACTIVE {
-            return self.gives(2);
+        let why = refusal(
+            out.len() < 576,
+            65535 < mm,
+            false,
+            self.state == INACTIVE,
+            DONE,
+        );
+        if why != DONE {
+            return self.gives(why);
         }
         let after = self.ticked(mm);
         let count = after.write_frames(out);
         Outcome {
-            number: 0,
+            number: DONE,
             code: 0,
             object: 0,
             count,

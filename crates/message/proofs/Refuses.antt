@@ -1,5 +1,4 @@
 -- What read refuses: the test of a message that a table holds is the table of the tests.
--- Assumes nothing.
 use mathlib.Core.Path.{_≡_, refl, ap, _∙_}
 use mathlib.Core.Bool.{Bool, true, false, _&&_, and-false}
 use mathlib.Core.List.{List, [], _∷_, map}
@@ -9,8 +8,9 @@ use lib.Dec.{leb, eqb}
 use lib.ListN.{length}
 use borrow.Author.Tests.{le-leb, lt-leb, eq-eqb, ne-eqb, leb-true, leb-false}
 use Rattle.octets.specs.Pick.{pick}
+use Rattle.octets.specs.Numbers.{completed, wrongValue}
 use Rattle.message.specs.Fields.{byte, entry}
-use Rattle.message.specs.Layout.{formOf, clientRows, masterRows, fromClient, fromMaster, layoutOf}
+use Rattle.message.specs.Layout.{formOf, clientRows, masterRows, fromClient, fromMaster, clientSide, masterSide, layoutOf}
 use Rattle.message.specs.Messages.{readOf}
 use Rattle.message.specs.Promises.{clientTakes, masterTakes, Refuses}
 use Rattle.message.specs.declared.forms.Form.{Form}
@@ -71,5 +71,5 @@ pub refuses : Refuses
 unfolding readOf layoutOf fits form
 refuses side s =
     pick-map (λ (r : Reading). r .number) (fits s (layoutOf side s)) _ _
-    ∙ ap (λ (b : Bool). pick b 0 4)
-    (entry-map (fits s) side ((0, fromClient (byte 1 s) s) ∷ (1, fromMaster (byte 1 s) s) ∷ []) Nothing ∙ rw (client s, master s, and-false (eqb 8 (length s))))
+    ∙ ap (λ (b : Bool). pick b completed wrongValue)
+    (entry-map (fits s) side ((clientSide, fromClient (byte 1 s) s) ∷ (masterSide, fromMaster (byte 1 s) s) ∷ []) Nothing ∙ rw (client s, master s, and-false (eqb 8 (length s))))

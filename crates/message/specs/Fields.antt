@@ -1,12 +1,10 @@
 -- Codes and bits of the messages.
--- Assumes nothing: these are definitions.
 use Prim.Native.Nat.{ℕ, _+_, _-_, _*_, _/_, _%_}
 use mathlib.Core.Bool.{Bool, _||_}
 use mathlib.Core.List.{List, [], _∷_, _++_}
 use lib.Dec.{leb, eqb}
 use lib.ListN.{getD, take, replicate}
-use Rattle.octets.specs.Octets.{numberAt}
-use Rattle.octets.specs.Pick.{pick}
+use Rattle.octets.specs.{Octets.numberAt, Pick.pick}
 use Rattle.message.specs.declared.Status.{Status}
 use Rattle.message.specs.declared.Status.the-variants.{AtOnce, Started, Done, Failed}
 
@@ -31,14 +29,14 @@ abbrev pub known : ℕ → ℕ → Bool
 known last code = leb code last || eqb code 0xFF
 
 -- E.4, E.5, E.7, E.8, byte 3, bits 7 and 8, the execution status: 00 started and done at once, 01 started, 10 done, 11 failed
-abbrev pub numberOf : Status → ℕ
-numberOf AtOnce = 0b00
-numberOf Started = 0b01
-numberOf Done = 0b10
-numberOf Failed = 0b11
+abbrev pub statusNumber : Status → ℕ
+statusNumber AtOnce = 0b00
+statusNumber Started = 0b01
+statusNumber Done = 0b10
+statusNumber Failed = 0b11
 
 abbrev pub statusRows : List (ℕ × Status)
-statusRows = (0b00, AtOnce) ∷ (0b01, Started) ∷ (0b10, Done) ∷ []
+statusRows = (statusNumber AtOnce, AtOnce) ∷ (statusNumber Started, Started) ∷ (statusNumber Done, Done) ∷ []
 
 unfoldable pub statusFrom : ℕ → Status
 statusFrom number = entry number statusRows Failed
@@ -48,4 +46,4 @@ statusOf octet = statusFrom (octet / 64)
 
 -- bits 1 to 6 the state, bits 7 and 8 the status
 unfoldable pub packed : ℕ → Status → ℕ
-packed state status = state % 64 + 64 * numberOf status
+packed state status = state % 64 + 64 * statusNumber status

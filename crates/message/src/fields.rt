@@ -1,6 +1,6 @@
 // Codes and bits.
 ghost use mathlib.Core.Path.{_≡_};
-ghost use Rattle.message.specs.Fields.{known, statusFrom, statusOf, numberOf, packed};
+ghost use Rattle.message.specs.Fields.{known, statusFrom, statusOf, statusNumber, packed};
 use crate::Status;
 
 // D.9: whether the code is not a reserved one.
@@ -14,15 +14,15 @@ pub fn is_pool_code(code: u8) -> bool
     }
 }
 
-// A number above 3 counts as 3.
+// Any other number counts as 11.
 pub fn status_from(number: u8) -> Status
     ensures { λ r. ⌜ r ≡ statusFrom number ⌝ }
 {
     match number {
-        0 => Status::AtOnce,
-        1 => Status::Started,
-        2 => Status::Done,
-        3..=255 => Status::Failed,
+        0b00 => Status::AtOnce,
+        0b01 => Status::Started,
+        0b10 => Status::Done,
+        0b11..=255 => Status::Failed,
     }
 }
 
@@ -33,14 +33,14 @@ pub fn status_of(octet: u8) -> Status
     status_from(octet / 64)
 }
 
-pub fn number_of(status: Status) -> u8
-    ensures { λ r. ⌜ r ≡ numberOf status ⌝ }
+pub fn status_number(status: Status) -> u8
+    ensures { λ r. ⌜ r ≡ statusNumber status ⌝ }
 {
     match status {
-        Status::AtOnce => 0,
-        Status::Started => 1,
-        Status::Done => 2,
-        Status::Failed => 3,
+        Status::AtOnce => 0b00,
+        Status::Started => 0b01,
+        Status::Done => 0b10,
+        Status::Failed => 0b11,
     }
 }
 
@@ -48,5 +48,5 @@ pub fn number_of(status: Status) -> u8
 pub fn packed(state: u8, status: Status) -> u8
     ensures { λ r. ⌜ r ≡ packed state status ⌝ }
 {
-    state % 64 + 64 * number_of(status)
+    state % 64 + 64 * status_number(status)
 }

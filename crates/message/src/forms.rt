@@ -4,7 +4,7 @@ ghost use mathlib.Core.List.{[], _∷_};
 ghost use Prim.Native.Nat.{max, min};
 ghost use lib.ListN.{length};
 ghost use Rattle.octets.specs.Octets as octets;
-ghost use Rattle.message.specs.Layout.{plain, eight, reply, labelled, pooled, capability, failing, formOf};
+ghost use Rattle.message.specs.Layout.{sized, ofEight, reply, labelled, pooled, capability, failing, formOf};
 ghost use Rattle.message.specs.Messages.{octetOf, writtenAs, leftAs};
 use crate::Capability;
 use crate::Message;
@@ -14,9 +14,12 @@ use crate::fields::is_pool_code;
 use crate::fields::packed;
 use octets::byte_at;
 use octets::label::Label;
+use octets::numbers::DONE;
+use octets::numbers::TOO_SHORT;
+use octets::numbers::WRONG_VALUE;
 
 // A reserved byte.
-const FF: u8 = 255;
+const FF: u8 = 0xFF;
 
 // A message as it is written, beside a label and a pool of given lengths.
 pub struct Form {
@@ -34,9 +37,9 @@ pub struct Form {
     pub bytes: [u8; 10],
 }
 
-// A message with no label and no pool.
-fn plain(length: usize, allowed: bool, bytes: [u8; 10]) -> Form
-    ensures { λ r. ⌜ r ≡ plain length allowed bytes ⌝ }
+// A message of a given length, with no label and no pool.
+fn sized(length: usize, allowed: bool, bytes: [u8; 10]) -> Form
+    ensures { λ r. ⌜ r ≡ sized length allowed bytes ⌝ }
 {
     Form {
         allowed: allowed,
@@ -49,10 +52,10 @@ fn plain(length: usize, allowed: bool, bytes: [u8; 10]) -> Form
 }
 
 // A message of 8 bytes, the last three reserved.
-fn eight(allowed: bool, one: u8, two: u8, three: u8, four: u8, five: u8) -> Form
-    ensures { λ r. ⌜ r ≡ eight allowed (one ∷ two ∷ three ∷ four ∷ five ∷ []) ⌝ }
+fn of_eight(allowed: bool, one: u8, two: u8, three: u8, four: u8, five: u8) -> Form
+    ensures { λ r. ⌜ r ≡ ofEight allowed (one ∷ two ∷ three ∷ four ∷ five ∷ []) ⌝ }
 {
-    plain(
+    sized(
         8,
         allowed,
         [one, two, three, four, five, FF, FF, FF, FF, FF],
@@ -61,13 +64,13 @@ fn eight(allowed: bool, one: u8, two: u8, three: u8, four: u8, five: u8) -> Form
 
 // A message whose bytes 5 to 8 are a value.
 fn valued(allowed: bool, one: u8, two: u8, three: u8, four: u8, value: u32) -> Form
-    ensures { λ r. ⌜ r ≡ eight allowed (one ∷ two ∷ three ∷ four ∷ octets.bytesOf 4 value) ⌝ }
+    ensures { λ r. ⌜ r ≡ ofEight allowed (one ∷ two ∷ three ∷ four ∷ octets.bytesOf 4 value) ⌝ }
 {
     let five = (value % 256) as u8;
     let six = (value / 256 % 256) as u8;
     let seven = (value / 256 / 256 % 256) as u8;
     let last = (value / 256 / 256 / 256 % 256) as u8;
-    plain(
+    sized(
         8,
         allowed,
         [one, two, three, four, five, six, seven, last, FF, FF],
@@ -79,8 +82,8 @@ fn reply(code: u8, last: u8, r: Reply) -> Form
     ensures { λ f. ⌜ f ≡ reply code last r ⌝ }
 {
     let status = r.status;
-    eight(
-        (r.state <= 63) & ((r.error <= last) | (r.error == 255)),
+    of_eight(
+        (r.state <= 63) & ((r.error <= last) | (r.error == 0xFF)),
         code,
         r.function,
         packed(r.state, status),
@@ -95,7 +98,7 @@ fn labelled(code: u8, error: u8, n: u8) -> Form
 {
     Form {
         allowed: (n <= 63)
-            & (((error == 0) & (1 <= n)) | (((error == 1) | (error == 255)) & (n == 0))),
+            & (((error == 0x00) & (1 <= n)) | (((error == 0x01) | (error == 0xFF)) & (n == 0))),
         length: at_least_eight(3 + n as usize),
         first: 3,
         label: n,
@@ -134,9 +137,9 @@ fn at_most_a_pool(n: usize) -> usize
 fn capability(c: Capability) -> Form
     ensures { λ r. ⌜ r ≡ capability c ⌝ }
 {
-    plain(
+    sized(
         10,
-        (c.version <= 2) & (32 <= c.width) & (32 <= c.height) & (32 <= c.characters),
+        (c.version <= 0x02) & (32 <= c.width) & (32 <= c.height) & (32 <= c.characters),
         [
             0x90,
             c.version,
@@ -156,7 +159,7 @@ fn capability(c: Capability) -> Form
 fn failing(code: u8, last: u8, error: u8) -> Form
     ensures { λ r. ⌜ r ≡ failing code last error ⌝ }
 {
-    eight((error <= last) | (error == 255), code, error, FF, FF, FF)
+    of_eight((error <= last) | (error == 0xFF), code, error, FF, FF, FF)
 }
 
 // A message, beside a label of n bytes and a pool of p bytes.
@@ -164,10 +167,10 @@ pub fn form_of(message: Message, n: u8, p: usize) -> Form
     ensures { λ r. ⌜ r ≡ formOf message n p ⌝ }
 {
     match message {
-        Message::Nothing => eight(false, FF, FF, FF, FF, FF),
-        Message::CapabilityRequest(version) => eight(version <= 2, 0x90, version, FF, FF, FF),
+        Message::Nothing => of_eight(false, FF, FF, FF, FF, FF),
+        Message::CapabilityRequest(version) => of_eight(version <= 0x02, 0x90, version, FF, FF, FF),
         Message::CapabilityResponse(c) => capability(c),
-        Message::MemoryRequest(m) => eight(
+        Message::MemoryRequest(m) => of_eight(
             true,
             0x91,
             (m % 256) as u8,
@@ -175,55 +178,57 @@ pub fn form_of(message: Message, n: u8, p: usize) -> Form
             (m / 256 / 256 % 256) as u8,
             (m / 256 / 256 / 256 % 256) as u8,
         ),
-        Message::MemoryResponse(status) => eight(status <= 1, 0x91, status, FF, FF, FF),
-        Message::VersionRequest => eight(true, 0x01, FF, FF, FF, FF),
+        Message::MemoryResponse(status) => of_eight(status <= 0x01, 0x91, status, FF, FF, FF),
+        Message::VersionRequest => of_eight(true, 0x01, FF, FF, FF, FF),
         Message::VersionResponse(error) => labelled(0x01, error, n),
-        Message::ConfigurationRequest => eight(true, 0x02, FF, FF, FF, FF),
+        Message::ConfigurationRequest => of_eight(true, 0x02, FF, FF, FF, FF),
         Message::ConfigurationResponse(error) => labelled(0x02, error, n),
         Message::Transfer => pooled(p),
-        Message::TransferResponse(error) => failing(0x03, 1, error),
-        Message::ActivationCommand => eight(true, 0x04, FF, FF, FF, FF),
+        Message::TransferResponse(error) => failing(0x03, 0x01, error),
+        Message::ActivationCommand => of_eight(true, 0x04, FF, FF, FF, FF),
         Message::PoolAcknowledgement(code, object) => {
             let allowed = is_pool_code(code);
             let low = (object % 256) as u8;
             let high = (object / 256 % 256) as u8;
-            eight(allowed, 0x04, code, low, high, FF)
+            of_eight(allowed, 0x04, code, low, high, FF)
         }
-        Message::DeleteCommand(memory) => eight(memory <= 1, 0x05, memory, FF, FF, FF),
-        Message::DeleteResponse(error) => failing(0x05, 1, error),
-        Message::StoreCommand => eight(true, 0x06, FF, FF, FF, FF),
-        Message::StoreResponse(error) => failing(0x06, 2, error),
-        Message::LoadCommand => eight(true, 0x07, FF, FF, FF, FF),
-        Message::LoadResponse(error) => failing(0x07, 3, error),
+        Message::DeleteCommand(memory) => of_eight(memory <= 0x01, 0x05, memory, FF, FF, FF),
+        Message::DeleteResponse(error) => failing(0x05, 0x01, error),
+        Message::StoreCommand => of_eight(true, 0x06, FF, FF, FF, FF),
+        Message::StoreResponse(error) => failing(0x06, 0x02, error),
+        Message::LoadCommand => of_eight(true, 0x07, FF, FF, FF, FF),
+        Message::LoadResponse(error) => failing(0x07, 0x03, error),
         Message::StateCommand(state, reason) => {
-            let allowed = (state <= 1) & (1 <= reason) & ((reason <= 3) | (reason == 255));
-            eight(allowed, 0x30, state, FF, reason, FF)
+            let allowed = (state <= 0x01)
+                & (0x01 <= reason)
+                & ((reason <= 0x03) | (reason == 0xFF));
+            of_eight(allowed, 0x30, state, FF, reason, FF)
         }
         Message::ClientAbort(error) => {
-            let allowed = (1 <= error) & ((error <= 3) | (error == 255));
-            eight(allowed, 0x31, FF, FF, error, FF)
+            let allowed = (0x01 <= error) & ((error <= 0x03) | (error == 0xFF));
+            of_eight(allowed, 0x31, FF, FF, error, FF)
         }
         Message::Indication(e) => {
             let status = e.status;
             let octet = packed(e.state, status);
             valued(e.state <= 63, 0x32, e.function, octet, e.tan, e.value)
         }
-        Message::IndicationResponse(r) => reply(0x32, 6, r),
+        Message::IndicationResponse(r) => reply(0x32, 0x06, r),
         Message::Command(o) => {
             let octet = o.state % 64;
             valued(o.state <= 63, 0x33, o.function, octet, o.tan, o.value)
         }
-        Message::Answer(r) => reply(0x34, 3, r),
+        Message::Answer(r) => reply(0x34, 0x03, r),
         Message::AnswerAcknowledgement(r) => {
             let status = r.status;
             let octet = packed(r.state, status);
-            eight(r.state <= 63, 0x34, r.function, octet, r.tan, FF)
+            of_eight(r.state <= 63, 0x34, r.function, octet, r.tan, FF)
         }
     }
 }
 
 // Byte i of a message, counted from 0, with a label and a pool beside it.
-fn octet(form: Form, label: Label, pool: &[u8], i: usize) -> u8
+fn octet_of(form: Form, label: Label, pool: &[u8], i: usize) -> u8
     ensures { λ r. ⌜ r ≡ octetOf form label (now (pool .entry)) i ⌝ }
 {
     let bytes = form.bytes;
@@ -249,23 +254,23 @@ pub fn lay(form: Form, label: Label, pool: &[u8], out: &mut [u8]) -> Written
     let end = form.length;
     if out.len() < end {
         return Written {
-            number: 1,
+            number: TOO_SHORT,
             length: 0,
         };
     }
     if !form.allowed {
         return Written {
-            number: 4,
+            number: WRONG_VALUE,
             length: 0,
         };
     }
     let mut i: usize = 0;
     while i < end {
-        out[i] = octet(form, label, pool, i);
+        out[i] = octet_of(form, label, pool, i);
         i += 1;
     }
     Written {
-        number: 0,
+        number: DONE,
         length: end,
     }
 }

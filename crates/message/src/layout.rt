@@ -1,8 +1,10 @@
 // The code decides the layout, together with the side that sent it. The annexes count bytes from 1, a slice from 0.
 ghost use mathlib.Core.Path.{_≡_};
-ghost use Rattle.message.specs.Layout.{capabilityIn, executionIn, replyIn, orderIn, receiptIn, fromClient, fromMaster, layoutOf};
+ghost use Rattle.message.specs.Layout.{asCapability, asExecution, asReply, asOrder, asReceipt, fromClient, fromMaster, layoutOf};
+use crate::CLIENT;
 use crate::Capability;
 use crate::Execution;
+use crate::MASTER;
 use crate::Message;
 use crate::Order;
 use crate::Receipt;
@@ -13,8 +15,8 @@ use octets::u16_at;
 use octets::u32_at;
 
 // C.3.
-fn capability_in(s: &[u8]) -> Capability
-    ensures { λ r. ⌜ r ≡ capabilityIn (now (s .entry)) ⌝ }
+fn as_capability(s: &[u8]) -> Capability
+    ensures { λ r. ⌜ r ≡ asCapability (now (s .entry)) ⌝ }
 {
     Capability {
         version: byte_at(s, 1),
@@ -29,8 +31,8 @@ fn capability_in(s: &[u8]) -> Capability
 }
 
 // E.4.
-fn execution_in(s: &[u8]) -> Execution
-    ensures { λ r. ⌜ r ≡ executionIn (now (s .entry)) ⌝ }
+fn as_execution(s: &[u8]) -> Execution
+    ensures { λ r. ⌜ r ≡ asExecution (now (s .entry)) ⌝ }
 {
     Execution {
         function: byte_at(s, 1),
@@ -42,8 +44,8 @@ fn execution_in(s: &[u8]) -> Execution
 }
 
 // E.5 and E.7.
-fn reply_in(s: &[u8]) -> Reply
-    ensures { λ r. ⌜ r ≡ replyIn (now (s .entry)) ⌝ }
+fn as_reply(s: &[u8]) -> Reply
+    ensures { λ r. ⌜ r ≡ asReply (now (s .entry)) ⌝ }
 {
     Reply {
         function: byte_at(s, 1),
@@ -55,8 +57,8 @@ fn reply_in(s: &[u8]) -> Reply
 }
 
 // E.6.
-fn order_in(s: &[u8]) -> Order
-    ensures { λ r. ⌜ r ≡ orderIn (now (s .entry)) ⌝ }
+fn as_order(s: &[u8]) -> Order
+    ensures { λ r. ⌜ r ≡ asOrder (now (s .entry)) ⌝ }
 {
     Order {
         function: byte_at(s, 1),
@@ -67,8 +69,8 @@ fn order_in(s: &[u8]) -> Order
 }
 
 // E.8.
-fn receipt_in(s: &[u8]) -> Receipt
-    ensures { λ r. ⌜ r ≡ receiptIn (now (s .entry)) ⌝ }
+fn as_receipt(s: &[u8]) -> Receipt
+    ensures { λ r. ⌜ r ≡ asReceipt (now (s .entry)) ⌝ }
 {
     Receipt {
         function: byte_at(s, 1),
@@ -90,8 +92,8 @@ fn from_client(code: u8, s: &[u8]) -> Message
         0x06 => Message::StoreCommand,
         0x07 => Message::LoadCommand,
         0x31 => Message::ClientAbort(byte_at(s, 3)),
-        0x32 => Message::Indication(execution_in(s)),
-        0x34 => Message::Answer(reply_in(s)),
+        0x32 => Message::Indication(as_execution(s)),
+        0x34 => Message::Answer(as_reply(s)),
         0x90 => Message::CapabilityRequest(byte_at(s, 1)),
         0x91 => Message::MemoryRequest(u32_at(s, 1)),
         0x00 | 0x08..=0x30 | 0x33 | 0x35..=0x8F | 0x92..=0xFF => Message::Nothing,
@@ -110,23 +112,22 @@ fn from_master(code: u8, s: &[u8]) -> Message
         0x06 => Message::StoreResponse(byte_at(s, 1)),
         0x07 => Message::LoadResponse(byte_at(s, 1)),
         0x30 => Message::StateCommand(byte_at(s, 1), byte_at(s, 3)),
-        0x32 => Message::IndicationResponse(reply_in(s)),
-        0x33 => Message::Command(order_in(s)),
-        0x34 => Message::AnswerAcknowledgement(receipt_in(s)),
-        0x90 => Message::CapabilityResponse(capability_in(s)),
+        0x32 => Message::IndicationResponse(as_reply(s)),
+        0x33 => Message::Command(as_order(s)),
+        0x34 => Message::AnswerAcknowledgement(as_receipt(s)),
+        0x90 => Message::CapabilityResponse(as_capability(s)),
         0x91 => Message::MemoryResponse(byte_at(s, 1)),
         0x00 | 0x08..=0x2F | 0x31 | 0x35..=0x8F | 0x92..=0xFF => Message::Nothing,
     }
 }
 
-// Side 0 is a client, 1 the master.
 pub fn layout_of(side: u32, s: &[u8]) -> Message
     ensures { λ r. ⌜ r ≡ layoutOf side (now (s .entry)) ⌝ }
 {
     let code = byte_at(s, 0);
     match side {
-        0 => from_client(code, s),
-        1 => from_master(code, s),
+        CLIENT => from_client(code, s),
+        MASTER => from_master(code, s),
         _ => Message::Nothing,
     }
 }

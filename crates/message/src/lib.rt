@@ -4,13 +4,15 @@ ghost use mathlib.Core.List.{[]};
 ghost use Prim.Native.Nat.{_-_};
 ghost use lib.ListN.{length};
 ghost use Rattle.octets.specs.Label.{blank};
-ghost use Rattle.message.specs.Messages.{readOf, poolOf, writtenOf, leftOf};
-ghost use Rattle.message.specs.Promises.{ComesBack, Refuses, Cases};
+ghost use Rattle.message.specs.Messages.{readOf, poolOf, writtenOf, writtenOver};
+ghost use Rattle.message.specs.Promises.{ComesBack, Refuses, MessageCases};
 ghost use Rattle.message.specs.declared.Message.the-variants.{Transfer};
 use octets::byte_at;
 use octets::label::Label;
 use octets::label::blank;
 use octets::label::label_at;
+use octets::numbers::DONE;
+use octets::numbers::WRONG_VALUE;
 
 pub mod fields;
 pub mod forms;
@@ -161,13 +163,13 @@ pub fn read(side: u32, bytes: &[u8]) -> Reading
     let form = forms::form_of(message, byte_at(bytes, 2) % 64, pool_length(bytes.len()));
     if (form.length == bytes.len()) & form.allowed {
         return Reading {
-            number: 0,
+            number: DONE,
             message: message,
             label: label_at(bytes, 3, form.label),
         };
     }
     Reading {
-        number: 4,
+        number: WRONG_VALUE,
         message: Message::Nothing,
         label: blank(),
     }
@@ -186,7 +188,7 @@ pub fn pool_of(bytes: &[u8]) -> &[u8]
 // Lays a message, and the label beside it, in a slice. A transfer is laid by write_transfer.
 pub fn write(message: Message, label: Label, out: &mut [u8]) -> Written
     ensures { λ r. ⌜ r ≡ writtenOf message label [] (length (now (out .entry))) ⌝ }
-    ensures { λ _. ⌜ now (out .exit) ≡ leftOf message label [] (now (out .entry)) ⌝ }
+    ensures { λ _. ⌜ now (out .exit) ≡ writtenOver message label [] (now (out .entry)) ⌝ }
 {
     let form = forms::form_of(message, label.length, 0);
     forms::lay(form, label, b"", out)
@@ -195,7 +197,7 @@ pub fn write(message: Message, label: Label, out: &mut [u8]) -> Written
 // Lays a transfer, D.6, with its pool in a slice.
 pub fn write_transfer(pool: &[u8], out: &mut [u8]) -> Written
     ensures { λ r. ⌜ r ≡ writtenOf Transfer blank (now (pool .entry)) (length (now (out .entry))) ⌝ }
-    ensures { λ _. ⌜ now (out .exit) ≡ leftOf Transfer blank (now (pool .entry)) (now (out .entry)) ⌝ }
+    ensures { λ _. ⌜ now (out .exit) ≡ writtenOver Transfer blank (now (pool .entry)) (now (out .entry)) ⌝ }
 {
     let form = forms::form_of(Message::Transfer, 0, pool.len());
     forms::lay(form, blank(), pool, out)
@@ -205,5 +207,5 @@ pub fn write_transfer(pool: &[u8], out: &mut [u8]) -> Written
 pub fn promises()
     ensures { λ _. ⌜ ComesBack ⌝ }
     ensures { λ _. ⌜ Refuses ⌝ }
-    ensures { λ _. ⌜ Cases ⌝ }
+    ensures { λ _. ⌜ MessageCases ⌝ }
 {}

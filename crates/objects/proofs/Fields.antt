@@ -1,5 +1,4 @@
 -- Fields in a list of bytes: each stands where the one before it ends. What is read so is written as the same bytes, and what is written is read.
--- Assumes nothing.
 use Prim.Native.Nat.{ℕ, zero, suc, _+_, _≤_}
 use native.Mathlib.Nat.{add-assoc, add-zero}
 use native.Mathlib.Omega.{arith}

@@ -1,5 +1,4 @@
 -- What a legal object's parts are: how long at most, and how many bytes its fields have.
--- Assumes nothing.
 use Prim.Native.Nat.{ℕ, _+_, _*_, _≤_}
 use native.Mathlib.Nat.{zero-add}
 use native.Mathlib.Omega.{arith}

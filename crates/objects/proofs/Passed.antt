@@ -1,23 +1,22 @@
 -- What is known of an object at which stage one finds no fault, and of every object of an accepted pool.
--- Assumes nothing.
 use Prim.Native.Nat.{ℕ, suc, _+_, _-_, _≤_, _<_}
 use native.Mathlib.Nat.{lt-of-not-le}
 use native.Mathlib.Decide.{decLe}
 use native.Mathlib.Omega.{arith}
 use mathlib.Core.Path.{_≡_, refl, sym, ap, _∙_, subst}
-use mathlib.Core.List.{List}
+use mathlib.Core.List.{List, _∷_}
 use mathlib.Core.Bool.{Bool, true, false, not, _&&_}
-use lib.ListN.{length, getD}
+use lib.ListN.{length}
 use lib.Dec.{ltb, eqb}
-use borrow.Author.Tests.{le-ltb, lt-ltb, eq-eqb, ltb-true, ltb-false, eqb-true, not-true}
+use borrow.Author.Tests.{le-ltb, lt-ltb, eq-eqb, ltb-true, ltb-false, eqb-true, not-true, not-false}
 use Rattle.octets.specs.Pick.{pick}
 use Rattle.pool.specs.declared.Verdict.{Verdict}
 use Rattle.pool.specs.declared.Head.{Head}
 use Rattle.pool.specs.declared.Head.the-variants.{Base, Function, State}
 use Rattle.pool.specs.Verdicts.{verdict, first, firstFault}
-use Rattle.pool.specs.Fields.{kindAt, fixedOf, sizeAt, baseAt, functionAt, stateAt, headAt, placesFrom}
+use Rattle.pool.specs.Fields.{kindAt, baseType, stateType, baseAt, functionAt, stateAt, headAt, fixedOf, sizeAt, placesFrom}
 use Rattle.pool.specs.Ranges.{labelRight, headRight}
-use Rattle.pool.specs.StageOne.{restCode, labelCode, codeAt, faultAt, stageOne}
+use Rattle.pool.specs.StageOne.{Fault, codeOf, bytesLeft, isBase, faultsAt, codeAt, faultAt, stageOne}
 use Rattle.pool.specs.StageTwo.{stageTwo}
 use Rattle.pool.specs.Pool.{verdictOf}
 use Rattle.pool.proofs.Faults.{first-fault, walk-here, walk-next}
@@ -51,15 +50,16 @@ at-is s at i = rw (le-ltb 16384 (length s) (i .short), lt-ltb at (length s) (i .
 
 -- ---- an object at which stage one finds no fault
 
-pick-late : (b : Bool) (x y : ℕ) → pick b (suc x) y ≡ 0 → (b ≡ false) × (y ≡ 0)
-unfolding pick
-pick-late true x y e = absurd (omega arith)
-pick-late false x y e = (refl, e)
+code-late : (b : Bool) (c : ℕ) (fs : List Fault) → codeOf ((b, suc c) ∷ fs) ≡ 0 → (b ≡ false) × (codeOf fs ≡ 0)
+unfolding codeOf pick
+code-late true c fs e = absurd (omega arith)
+code-late false c fs e = (refl, e)
 
-pick-early : (b : Bool) (x y : ℕ) → pick b x (suc y) ≡ 0 → (b ≡ true) × (x ≡ 0)
-unfolding pick
-pick-early true x y e = (refl, e)
-pick-early false x y e = absurd (omega arith)
+right-where : (a b : Bool) → a ≡ true → (a && not b) ≡ false → b ≡ true
+right-where true true t e = refl
+right-where true false t e = sym e
+right-where false true t e = refl
+right-where false false t e = t
 
 pub record Passed (s : List ℕ) (at : ℕ) : Type 0 where
   pub kind : kindAt s at ≤ 2
@@ -90,30 +90,28 @@ module _ (s : List ℕ) (at : ℕ) where
             ]
       ]
 
-  labels-passed : kindAt s at ≤ 2 → labelCode s at ≡ 0 → (restCode s at ≡ 0) × (labelsRight (headAt s at) ≡ true)
-  unfolding labelCode pick
-  labels-passed k e =
-      by-kind (λ h. (restCode s at ≡ 0) × (labelsRight h ≡ true)) k
-      (λ z.
-      let n = pick-early (labelRight (getD s (at + 24) 0)) _ 8 (sym (rw z) ∙ e) in
-      let m = pick-early (labelRight (getD s (at + 25) 0)) _ 10 (n .1) in
-      (m .1, rw (n .0, m .0)))
-      (λ z. (sym (rw z) ∙ e, refl))
-      (λ z. (sym (rw z) ∙ e, refl))
-
   pub passed : codeAt s at ≡ 0 → Passed s at
-  unfolding codeAt restCode
+  unfolding faultsAt
   passed e =
-      let three = pick-late (ltb (length s - at) 3) 254 _ e in
-      let known = pick-late (ltb 2 (kindAt s at)) 0 _ (three .1) in
-      let fixed = pick-late (ltb (length s - at) (fixedOf (kindAt s at))) 254 _ (known .1) in
-      let k : kindAt s at ≤ 2 = ltb-false 2 (kindAt s at) (known .0) in
-      let labels = labels-passed k (fixed .1) in
-      let cut = pick-late (ltb (length s - at) (sizeAt s at)) 254 _ (labels .0) in
+      let three = code-late (ltb (bytesLeft s at) 3) 0xFE _ e in
+      let known = code-late (ltb stateType (kindAt s at)) 0x00 _ (three .1) in
+      let fixed = code-late (ltb (bytesLeft s at) (fixedOf (kindAt s at))) 0xFE _ (known .1) in
+      let n = code-late (isBase s at && not (labelRight (baseAt s at .n))) 0x08 _ (fixed .1) in
+      let m = code-late (isBase s at && not (labelRight (baseAt s at .m))) 0x0A _ (n .1) in
+      let cut = code-late (ltb (bytesLeft s at) (sizeAt s at)) 0xFE _ (m .1) in
+      let ranges = code-late (not (headRight (headAt s at))) 0xFE _ (cut .1) in
+      let k : kindAt s at ≤ stateType = ltb-false stateType (kindAt s at) (known .0) in
+      let labels : labelsRight (headAt s at) ≡ true =
+      by-kind (λ h. labelsRight h ≡ true) k
+      (λ z.
+      let base = eq-eqb (kindAt s at) baseType z in
+      rw (right-where (isBase s at) (labelRight (baseAt s at .n)) base (n .0), right-where (isBase s at) (labelRight (baseAt s at .m)) base (m .0)))
+      (λ z. refl)
+      (λ z. refl) in
       record {
         kind = k;
-        room = omega (arith, ltb-false (length s - at) (sizeAt s at) (cut .0), ltb-false (length s - at) 3 (three .0));
-        right = rw (labels .1, pick-early (headRight (headAt s at)) 0 254 (cut .1) .0);
+        room = omega (arith, ltb-false (bytesLeft s at) (sizeAt s at) (cut .0), ltb-false (bytesLeft s at) 3 (three .0));
+        right = rw (labels, not-false (headRight (headAt s at)) (ranges .0));
       }
 
 -- ---- an accepted pool, from a place on

@@ -1,5 +1,4 @@
 -- The laws by which the loops go: cells that are filled, fields that are stored one after the other, and cells that are blank.
--- Assumes nothing.
 use Prim.Native.Nat.{ℕ, suc, _+_, _-_, _*_, _≤_, _<_}
 use native.Mathlib.Nat.{suc-add, add-suc, add-zero, le-refl}
 use native.Mathlib.Numerals.{add-one}
@@ -13,7 +12,7 @@ use lib.Dec.{eqb}
 use borrow.Author.Tests.{eq-eqb, ne-eqb}
 use borrow.Rule.Slice.PartMut.{putMid}
 use Rattle.octets.specs.Octets.{numberAt, bytesOf}
-use Rattle.octets.proofs.Laws.{number-one, length-bytes}
+use Rattle.octets.proofs.Laws.{length-bytes}
 use Rattle.pool.specs.Fields.{numbersAt}
 use Rattle.pool.proofs.Lists.{length-numbers, number-in}
 use Rattle.objects.specs.Objects.{Field, field, bytesOfFields, allBlank}
@@ -25,11 +24,6 @@ module _ (w : ℕ) (s : List ℕ) (i n k : ℕ) (out : List ℕ) where
   cell-next v h e =
       let l : k < length (numbersAt w s i n) = rw (length-numbers w s i n) h in
       rw (add-one, drop-cons (numbersAt w s i n) k 0, number-in w s i n k h, ← e)
-
-  pub byte-next : w ≡ 1 → k < n → sets out k (drop k (numbersAt w s i n)) ≡ sets (set out k (getD s (i + k) 0)) (k + 1) (drop (k + 1) (numbersAt w s i n))
-  byte-next e h =
-      let j : i + w * k ≡ i + k = rw e (omega arith) in
-      cell-next (getD s (i + k) 0) h (rw (j, e) (sym (number-one s (i + k))))
 
   pub cell-end : n ≤ k → sets out k (drop k (numbersAt w s i n)) ≡ out
   cell-end h = ap (sets out k) (drop-of-length-le (numbersAt w s i n) {i = k} (rw (length-numbers w s i n) h))

@@ -1,5 +1,4 @@
 -- The round trips: of one object at its place, and of a whole pool.
--- Assumes nothing.
 use Prim.Native.Nat.{ℕ, zero, suc, _+_, _-_, _≤_, _<_}
 use native.Mathlib.Nat.{lt-of-not-le}
 use native.Mathlib.Decide.{decLe}
@@ -14,10 +13,11 @@ use borrow.Author.Tests.{ltb-true}
 use Rattle.octets.specs.Pick.{pick}
 use Rattle.octets.proofs.Laws.{Bytes, past}
 use Rattle.octets.specs.Octets.{numberAt}
-use Rattle.pool.specs.Verdicts.{first, firstFault}
-use Rattle.pool.specs.Fields.{kindAt, fixedOf, restAt, sizeAt, headAt, numbersAt, placesF, placesFrom}
-use Rattle.pool.specs.StageOne.{restCode, labelCode, codeAt, nameAt, stageOne}
-use Rattle.pool.specs.StageTwo.{find, isObject, objectOf, idOf, isIn, firstRepeat, repeatFault, numbersFault, labelFault, absentFault, idsFault, statesFault, functionsFault, statesFaults, listsFault, baseFault, judged, stageTwo}
+use Rattle.octets.specs.Label.{labelAt}
+use Rattle.pool.specs.Verdicts.{first, firstOf}
+use Rattle.pool.specs.Fields.{kindAt, headAt, fixedOf, restAt, sizeAt, placesF, placesFrom, numbersAt}
+use Rattle.pool.specs.StageOne.{codeOf, faultsAt, nameAt, stageOne}
+use Rattle.pool.specs.StageTwo.{find, isObject, objectOf, idOf, isIn, firstRepeat, repeatFault, absentFault, idsFault, statesAbsent, statesAlike, rulesOf, stageTwo}
 use Rattle.pool.specs.Pool.{verdictOf}
 use Rattle.pool.specs.Cases.{base, function}
 use Rattle.pool.proofs.Lists.{length-numbers}
@@ -25,11 +25,12 @@ use Rattle.pool.proofs.Walk.{size-least, places-end, places-next}
 use Rattle.objects.specs.declared.Kind.{Kind}
 use Rattle.objects.specs.declared.Kind.the-variants.{Of}
 use Rattle.objects.specs.declared.Object.{Object}
-use Rattle.objects.specs.Objects.{partsOf, sizeOf, versionAt, configurationAt, listAt, wholeAt, decode, field, headFields, fieldsOf, encode, kindRight, legal, decodeAll, encodeAll}
+use Rattle.objects.specs.Objects.{partsOf, sizeOf, wholeAt, decode, field, headFields, fieldsOf, encode, kindRight, legal, decodeAll, encodeAll}
 use Rattle.objects.specs.RoundTrip.{LegalObject, AllLegal, RoundTrip}
 use Rattle.objects.proofs.Stores.{total, total-numbers, length-fields}
 use Rattle.objects.proofs.Limits.{and-l, and-r, right-short, right-least, is-legal, total-head, version-total, configuration-total, total-fields}
 use Rattle.objects.proofs.Cells.{take-cells, cells-blank, cells-are}
+use Rattle.objects.proofs.Whole.{versionAt, configurationAt, listAt, apart, whole-apart}
 use Rattle.objects.proofs.Passed.{Passed, IsAt, Fine, at-is, by-kind, passed, accepted, fine-here, fine-next}
 use Rattle.objects.proofs.Fields.{Reads, fields-written, fields-read, reads-fit, reads-both, reads-first, reads-then, numbers-read, numbers-are, head-reads, kind-is, list-most, fit-first}
 
@@ -49,8 +50,7 @@ module _ (s : List ℕ) (at : ℕ) (B : Bytes s) (p : Passed s at) where
   whole-most : partsOf (Of (headAt s at)) .list ≤ 255
   whole-most = list-most (Of (headAt s at)) (reads-fit s (headFields (Of (headAt s at))) at B (head-reads s at (p .kind)))
 
-  whole-fields : Reads s at (fieldsOf (wholeAt s at))
-  unfolding wholeAt
+  whole-fields : Reads s at (fieldsOf (apart s at))
   whole-fields =
       let k : Kind = Of (headAt s at) in
       let q = partsOf k in
@@ -69,11 +69,10 @@ module _ (s : List ℕ) (at : ℕ) (B : Bytes s) (p : Passed s at) where
       (reads-both s (map (field 1) c) (map (field 2) l) (configurationAt s at) (numbers-read s 1 (configurationAt s at) (q .configuration))
       (subst (λ (i : ℕ). Reads s i (map (field 2) l)) (omega (arith, total-numbers 1 c)) (numbers-read s 2 (listAt s at) (q .list))))))))
 
-  whole-total : total (fieldsOf (wholeAt s at)) ≡ sizeAt s at
-  unfolding wholeAt
+  whole-total : total (fieldsOf (apart s at)) ≡ sizeAt s at
   whole-total =
       let short = right-short (Of (headAt s at)) (p .right) in
-      total-fields (wholeAt s at)
+      total-fields (apart s at)
       (simp (length-sets, length-replicate) (short .version))
       (simp (length-sets, length-replicate) (short .configuration))
       (simp (length-sets, length-replicate) whole-most)
@@ -82,16 +81,18 @@ module _ (s : List ℕ) (at : ℕ) (B : Bytes s) (p : Passed s at) where
   -- an object that was read is written as the bytes that it was read from
   pub whole-written : encode (wholeAt s at) ≡ take (sizeAt s at) (drop at s)
   unfolding encode
-  whole-written = fields-written s (fieldsOf (wholeAt s at)) at B whole-fields (omega (arith, p .room, whole-total)) ∙ ap (λ (n : ℕ). take n (drop at s)) whole-total
+  whole-written =
+      rw (whole-apart s at (right-short (Of (headAt s at)) (p .right)))
+      (fields-written s (fieldsOf (apart s at)) at B whole-fields (omega (arith, p .room, whole-total)) ∙ ap (λ (n : ℕ). take n (drop at s)) whole-total)
 
   -- and is legal
   pub whole-legal : LegalObject (wholeAt s at)
-  unfolding wholeAt legal
+  unfolding legal
   whole-legal =
       let k : Kind = Of (headAt s at) in
       let short = right-short k (p .right) in
-      record {
-        fields = reads-fit s (fieldsOf (wholeAt s at)) at B whole-fields;
+      rw (whole-apart s at short) (record {
+        fields = reads-fit s (fieldsOf (apart s at)) at B whole-fields;
         version = simp (length-sets, length-replicate);
         configuration = simp (length-sets, length-replicate);
         list = simp (length-sets, length-replicate);
@@ -102,7 +103,7 @@ module _ (s : List ℕ) (at : ℕ) (B : Bytes s) (p : Passed s at) where
               cells-blank 63 _ _ (short .configuration) (length-numbers 1 s (configurationAt s at) (partsOf k .configuration)),
               cells-blank 255 _ _ whole-most (length-numbers 2 s (listAt s at) (partsOf k .list)),
             );
-      }
+      })
 
 -- ---- an object that was written
 
@@ -126,7 +127,7 @@ module _ (o : Object) (g : LegalObject o) where
 module _ (s : List ℕ) (at : ℕ) (o : Object) (rest : List ℕ) (g : LegalObject o) (e : drop at s ≡ encode o ++ rest) where
   -- is read from the bytes that it was written as
   pub whole-is : wholeAt s at ≡ o
-  unfolding wholeAt encode
+  unfolding encode
   whole-is =
       let legal = is-legal o (g .right) in
       let q = partsOf (o .kind) in
@@ -144,8 +145,10 @@ module _ (s : List ℕ) (at : ℕ) (o : Object) (rest : List ℕ) (g : LegalObje
       let ev : numbersAt 1 s (at + q .fixed) (q .version) ≡ v = rw (length-take-le (q .version) (o .version) hv) at (numbers-are s 1 (at + q .fixed) v (reads-first s (map (field 1) v) _ _ r1)) in
       let ec : numbersAt 1 s (at + q .fixed + q .version) (q .configuration) ≡ c = rw (length-take-le (q .configuration) (o .configuration) hc) at (numbers-are s 1 (at + q .fixed + q .version) c (reads-first s (map (field 1) c) _ _ r2)) in
       let el : numbersAt 2 s (at + q .fixed + q .version + q .configuration) (q .list) ≡ l = rw (length-take-le (q .list) (o .list) most) at (numbers-are s 2 (at + q .fixed + q .version + q .configuration) l r3) in
-      rw (
-        kind-is s at (o .kind) (legal .kind) (reads-first s (headFields (o .kind)) _ at r0),
+      let kind = kind-is s at (o .kind) (legal .kind) (reads-first s (headFields (o .kind)) _ at r0) in
+      whole-apart s at (rw kind short)
+      ∙ rw (
+        kind,
         cells-are 63 (q .version) _ (o .version) (short .version) (g .version) (legal .version) ev,
         cells-are 63 (q .configuration) _ (o .configuration) (short .configuration) (g .configuration) (legal .configuration) ec,
         cells-are 255 (q .list) _ (o .list) (omega (arith, g .list)) (g .list) (legal .list) el,
@@ -214,7 +217,7 @@ bytes-of (x ∷ s) e zero = ltb-true x 256 (and-l (ltb x 256) (allBytes s) e)
 bytes-of (x ∷ s) e (suc k) = bytes-of s (and-r (ltb x 256) (allBytes s) e) k
 
 pub round-trip : RoundTrip
-unfolding decodeAll allBytes numberAt pick first firstFault fixedOf restAt headAt placesF placesFrom numbersAt restCode labelCode codeAt nameAt stageOne find isObject objectOf idOf isIn firstRepeat repeatFault numbersFault labelFault absentFault idsFault statesFault functionsFault statesFaults listsFault baseFault judged stageTwo verdictOf
+unfolding decodeAll allBytes numberAt pick labelAt first firstOf headAt fixedOf restAt placesF placesFrom numbersAt codeOf faultsAt nameAt stageOne find isObject objectOf idOf isIn firstRepeat repeatFault absentFault idsFault statesAbsent statesAlike rulesOf stageTwo verdictOf
 round-trip =
     record {
       apart = λ s a. rest-of s (a .bytes) (length s) 0 (omega arith) (accepted s (a .success)) .legal;

@@ -1,25 +1,18 @@
 -- 01, "The pool": "Fields are those of tables A.1 to A.3." An object by value: how it is read off a pool's bytes, when it is legal, how it is
 -- written, and a whole pool as the list of its objects. `s` is the pool's bytes and `at` an object's place in it.
--- Assumes nothing: these are definitions.
 use Prim.Native.Nat.{ℕ, _+_, _*_}
 use mathlib.Core.List.{List, [], _∷_, _++_, map}
 use mathlib.Core.Bool.{Bool, true, false, not, _&&_}
 use lib.ListN.{length, take, drop, replicate}
 use lib.Seq.{sets}
 use lib.Dec.{ltb, eqb}
-use Rattle.octets.specs.Pick.{pick}
-use Rattle.octets.specs.Octets.{bytesOf}
-use Rattle.pool.specs.declared.Head.{Head}
+use Rattle.octets.specs.{Pick.pick, Octets.bytesOf, Label.blank, declared.label.Label.Label}
+use Rattle.octets.specs.Numbers.{completed, tooShort, wrongValue}
+use Rattle.pool.specs.{declared.Head.Head, Ranges.labelRight, Ranges.headRight, StageOne.codeAt}
 use Rattle.pool.specs.declared.Head.the-variants.{Base, Function, State}
-use Rattle.pool.specs.Fields.{sizeAt, headAt, numbersAt, placesFrom}
-use Rattle.pool.specs.Ranges.{labelRight, headRight}
-use Rattle.pool.specs.StageOne.{codeAt}
-use Rattle.objects.specs.declared.Kind.{Kind}
-use Rattle.objects.specs.declared.Kind.the-variants.{Of, Refused}
-use Rattle.objects.specs.declared.parts.Parts.{Parts}
-use Rattle.objects.specs.declared.Object.{Object}
-use Rattle.objects.specs.declared.Found.{Found}
-use Rattle.objects.specs.declared.Written.{Written}
+use Rattle.pool.specs.Fields.{kindAt, baseType, functionType, stateType, headAt, baseFixed, functionFixed, stateFixed, sizeAt, versionLabel, configurationLabel, functionsOf, statesOf, placesFrom}
+use Rattle.objects.specs.{declared.Kind.Kind, declared.Kind.the-variants.Of, declared.Kind.the-variants.Refused, declared.parts.Parts.Parts}
+use Rattle.objects.specs.{declared.Object.Object, declared.Found.Found, declared.Written.Written}
 
 -- ---- "Lengths from annex A: base 27 + N + M + 2·O bytes (labels N and M, O functions), function 30 + 2·S (S states, at most 64), state 8."
 
@@ -28,9 +21,9 @@ abbrev pub parts : ℕ → ℕ → ℕ → ℕ → Parts
 parts f n m c = record { fixed = f; version = n; configuration = m; list = c }
 
 abbrev pub partsOf : Kind → Parts
-partsOf (Of (Base h)) = parts 27 (h .n) (h .m) (h .o)
-partsOf (Of (Function h)) = parts 30 0 0 (h .s)
-partsOf (Of (State h)) = parts 8 0 0 0
+partsOf (Of (Base h)) = parts baseFixed (h .n) (h .m) (h .o)
+partsOf (Of (Function h)) = parts functionFixed 0 0 (h .s)
+partsOf (Of (State h)) = parts stateFixed 0 0 0
 partsOf (Refused p) = parts 0 0 0 0
 
 abbrev pub sizeOf : Kind → ℕ
@@ -42,23 +35,21 @@ sizeOf k = partsOf k .fixed + partsOf k .version + partsOf k .configuration + 2 
 abbrev pub cells : ℕ → List ℕ → List ℕ
 cells m l = sets (replicate m 0) 0 l
 
--- where each part begins
-abbrev pub versionAt : List ℕ → ℕ → ℕ
-versionAt s at = at + partsOf (Of (headAt s at)) .fixed
+-- the labels of a base; another object has none
+abbrev pub labelAfter : List ℕ → ℕ → Label → Label
+labelAfter s at label = pick (eqb (kindAt s at) baseType) label blank
 
-abbrev pub configurationAt : List ℕ → ℕ → ℕ
-configurationAt s at = versionAt s at + partsOf (Of (headAt s at)) .version
-
-abbrev pub listAt : List ℕ → ℕ → ℕ
-listAt s at = configurationAt s at + partsOf (Of (headAt s at)) .configuration
+-- the list of a base or of a function; a state has none
+abbrev pub listAfter : List ℕ → ℕ → List ℕ
+listAfter s at = pick (eqb (kindAt s at) baseType) (functionsOf s at) (pick (eqb (kindAt s at) functionType) (statesOf s at) [])
 
 unfoldable pub wholeAt : List ℕ → ℕ → Object
 wholeAt s at =
     record {
       kind = Of (headAt s at);
-      version = cells 63 (numbersAt 1 s (versionAt s at) (partsOf (Of (headAt s at)) .version));
-      configuration = cells 63 (numbersAt 1 s (configurationAt s at) (partsOf (Of (headAt s at)) .configuration));
-      list = cells 255 (numbersAt 2 s (listAt s at) (partsOf (Of (headAt s at)) .list));
+      version = labelAfter s at (versionLabel s at) .bytes;
+      configuration = labelAfter s at (configurationLabel s at) .bytes;
+      list = cells 255 (listAfter s at);
     }
 
 -- where none can be read: the place, and blank cells
@@ -67,7 +58,7 @@ refused at = record { kind = Refused at; version = replicate 63 0; configuration
 
 -- an object can be read at a place before the end where stage one finds no fault, in a pool of "At most 16,384 bytes"
 unfoldable pub isAt : List ℕ → ℕ → Bool
-isAt s at = not (ltb 16384 (length s)) && ltb at (length s) && eqb (codeAt s at) 0
+isAt s at = not (ltb 16384 (length s)) && ltb at (length s) && eqb (codeAt s at) 0x00
 
 unfoldable pub decode : List ℕ → ℕ → Object
 decode s at = pick (isAt s at) (wholeAt s at) (refused at)
@@ -92,7 +83,7 @@ field w v = record { width = w; value = v }
 abbrev pub headFields : Kind → List Field
 headFields (Of (Base h)) =
     field 2 (h .number)
-    ∷ field 1 0
+    ∷ field 1 baseType
     ∷ field 1 (h .version)
     ∷ field 8 (h .master)
     ∷ field 8 (h .mask)
@@ -104,7 +95,7 @@ headFields (Of (Base h)) =
     ∷ []
 headFields (Of (Function h)) =
     field 2 (h .number)
-    ∷ field 1 1
+    ∷ field 1 functionType
     ∷ field 1 (h .function)
     ∷ field 1 (h .trigger)
     ∷ field 1 (h .attribute)
@@ -118,7 +109,7 @@ headFields (Of (Function h)) =
     ∷ field 2 (h .picture)
     ∷ field 1 (h .s)
     ∷ []
-headFields (Of (State h)) = field 2 (h .number) ∷ field 1 2 ∷ field 1 (h .state) ∷ field 2 (h .name) ∷ field 2 (h .picture) ∷ []
+headFields (Of (State h)) = field 2 (h .number) ∷ field 1 stateType ∷ field 1 (h .state) ∷ field 2 (h .name) ∷ field 2 (h .picture) ∷ []
 headFields (Refused p) = []
 
 -- the labels, a byte a field, and the list, two bytes a field
@@ -161,7 +152,7 @@ legal o =
     && blankFrom (partsOf (o .kind) .configuration) (o .configuration)
     && blankFrom (partsOf (o .kind) .list) (o .list)
 
--- ---- the call that writes: "1, 4, ..": "lent output too short" is 1, a "value its field does not allow" 4
+-- ---- the call that writes: "1, 4, ..": "lent output too short", or a "value its field does not allow"
 
 abbrev pub written : ℕ → ℕ → Written
 written n p = record { number = n; next = p }
@@ -170,7 +161,7 @@ abbrev pub noRoom : Object → List ℕ → ℕ → Bool
 noRoom o out at = ltb (length out) (at + sizeOf (o .kind))
 
 unfoldable pub writeAnswer : Object → List ℕ → ℕ → Written
-writeAnswer o out at = pick (noRoom o out at) (written 1 at) (pick (legal o) (written 0 (at + sizeOf (o .kind))) (written 4 at))
+writeAnswer o out at = pick (noRoom o out at) (written tooShort at) (pick (legal o) (written completed (at + sizeOf (o .kind))) (written wrongValue at))
 
 -- "Every number but 0 leaves the state and all lent memory unchanged."
 unfoldable pub writeOut : Object → List ℕ → ℕ → List ℕ

@@ -1,14 +1,12 @@
 -- A pool taken apart and written again, and objects written and taken apart again: each gives back what it was given. 01, "How far each promise
 -- goes": "Shut out are: refusing everything (by the pool definition ..); a fixed reply (round trip over differing pools)". The function
 -- `round_trip` of the crate ensures these statements.
--- Assumes nothing: these are statements.
 use Prim.Native.Nat.{ℕ, _<_, _^_}
 use mathlib.Core.Path.{_≡_}
 use mathlib.Core.Bool.{true}
 use mathlib.Core.List.{List, [], _∷_, _++_}
 use lib.ListN.{length, getD}
-use Rattle.pool.specs.Pool.{verdictOf}
-use Rattle.pool.specs.Cases.{base, function}
+use Rattle.pool.specs.{Pool.verdictOf, Cases.base, Cases.function}
 use Rattle.objects.specs.declared.Object.{Object}
 use Rattle.objects.specs.Objects.{Field, fieldsOf, legal, decodeAll, encodeAll}
 

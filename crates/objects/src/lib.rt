@@ -4,6 +4,9 @@ mod parts;
 mod read;
 mod write;
 
+use octets::numbers::DONE;
+use octets::numbers::TOO_SHORT;
+use octets::numbers::WRONG_VALUE;
 use pool::Head;
 ghost use mathlib.Core.Path.{_≡_};
 ghost use Rattle.objects.specs.Objects.{foundAt, writeAnswer, writeOut};
@@ -61,19 +64,19 @@ pub fn write_object(object: Object, out: &mut [u8], at: usize) -> Written
     let kind = object.kind;
     if write::no_room(kind, out.len(), at) {
         return Written {
-            number: 1,
+            number: TOO_SHORT,
             next: at,
         };
     }
     if !legal::is_legal(object) {
         return Written {
-            number: 4,
+            number: WRONG_VALUE,
             next: at,
         };
     }
     write::put_object(&mut out[at..], object);
     Written {
-        number: 0,
+        number: DONE,
         next: at + parts::size_of(kind),
     }
 }

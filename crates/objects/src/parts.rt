@@ -3,7 +3,10 @@ ghost use mathlib.Core.Path.{_≡_};
 ghost use Prim.Native.Nat.{_≤_};
 ghost use Rattle.objects.specs.Objects.{partsOf, sizeOf};
 use crate::Kind;
+use pool::BASE_FIXED;
+use pool::FUNCTION_FIXED;
 use pool::Head;
+use pool::STATE_FIXED;
 
 // The bytes of the fixed part and of the labels, and the count of the numbers listed.
 pub struct Parts {
@@ -18,19 +21,19 @@ pub fn head_parts(head: Head) -> Parts
 {
     match head {
         Head::Base(b) => Parts {
-            fixed: 27,
+            fixed: BASE_FIXED as u8,
             version: b.n,
             configuration: b.m,
             list: b.o,
         },
         Head::Function(f) => Parts {
-            fixed: 30,
+            fixed: FUNCTION_FIXED as u8,
             version: 0,
             configuration: 0,
             list: f.s,
         },
         Head::State(_) => Parts {
-            fixed: 8,
+            fixed: STATE_FIXED as u8,
             version: 0,
             configuration: 0,
             list: 0,

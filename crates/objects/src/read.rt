@@ -6,23 +6,8 @@ ghost use Rattle.objects.specs.Objects.{cells, wholeAt, refused, isAt};
 use crate::Kind;
 use crate::Object;
 use crate::parts::head_parts;
-use octets::byte_at;
-use octets::put_byte;
+use octets::label::label_at;
 use octets::u16_at;
-
-// A label of n bytes, at the front of its cells.
-fn label_at(s: &[u8], i: usize, n: usize) -> [u8; 63]
-    requires { ⌜ (i < 131072) × (n ≤ 255) ⌝ }
-    ensures { λ r. ⌜ r ≡ cells 63 (numbersAt 1 (now (s .entry)) i n) ⌝ }
-{
-    let mut label = [0u8; 63];
-    let mut k: usize = 0;
-    while k < n {
-        put_byte(&mut label, k, byte_at(s, i + k));
-        k += 1;
-    }
-    label
-}
 
 // A list of n numbers, at the front of its cells.
 fn list_at(s: &[u8], i: usize, n: usize) -> [u16; 255]
@@ -44,13 +29,14 @@ pub fn whole_at(s: &[u8], at: usize) -> Object
 {
     let head = pool::fields::head_at(s, at);
     let parts = head_parts(head);
-    let n = parts.version as usize;
-    let m = parts.configuration as usize;
-    let count = parts.list as usize;
+    let n = parts.version;
+    let m = parts.configuration;
     let rest = at + parts.fixed as usize;
-    let version = label_at(s, rest, n);
-    let configuration = label_at(s, rest + n, m);
-    let list = list_at(s, rest + n + m, count);
+    let first = label_at(s, rest, n);
+    let second = label_at(s, rest + n as usize, m);
+    let list = list_at(s, rest + n as usize + m as usize, parts.list as usize);
+    let version = first.bytes;
+    let configuration = second.bytes;
     Object {
         kind: Kind::Of(head),
         version,
@@ -82,5 +68,5 @@ pub fn is_at(s: &[u8], at: usize) -> bool
     if s.len() <= at {
         return false;
     }
-    pool::stage_one::code_at(s, at) == 0
+    pool::stage_one::code_at(s, at) == 0x00
 }

@@ -15,9 +15,12 @@ use octets::put;
 use octets::put_u16;
 use octets::put_u32;
 use octets::put_u64;
+use pool::BASE_TYPE;
 use pool::BaseHead;
+use pool::FUNCTION_TYPE;
 use pool::FunctionHead;
 use pool::Head;
+use pool::STATE_TYPE;
 use pool::StateHead;
 
 // The object's bytes do not end within length, written from a place on; at + size itself may be too large for a usize.
@@ -42,7 +45,7 @@ fn put_base(out: &mut [u8], h: BaseHead)
     ensures { λ _. ⌜ now (out .exit) ≡ sets (now (out .entry)) 0 (bytesOfFields (headFields (Kind.Of (Head.Base h)))) ⌝ }
 {
     put_u16(out, 0, h.number);
-    put_u8(out, 2, 0);
+    put_u8(out, 2, BASE_TYPE);
     put_u8(out, 3, h.version);
     put_u64(out, 4, h.master);
     put_u64(out, 12, h.mask);
@@ -57,7 +60,7 @@ fn put_function(out: &mut [u8], h: FunctionHead)
     ensures { λ _. ⌜ now (out .exit) ≡ sets (now (out .entry)) 0 (bytesOfFields (headFields (Kind.Of (Head.Function h)))) ⌝ }
 {
     put_u16(out, 0, h.number);
-    put_u8(out, 2, 1);
+    put_u8(out, 2, FUNCTION_TYPE);
     put_u8(out, 3, h.function);
     put_u8(out, 4, h.trigger);
     put_u8(out, 5, h.attribute);
@@ -76,7 +79,7 @@ fn put_state(out: &mut [u8], h: StateHead)
     ensures { λ _. ⌜ now (out .exit) ≡ sets (now (out .entry)) 0 (bytesOfFields (headFields (Kind.Of (Head.State h)))) ⌝ }
 {
     put_u16(out, 0, h.number);
-    put_u8(out, 2, 2);
+    put_u8(out, 2, STATE_TYPE);
     put_u8(out, 3, h.state);
     put_u16(out, 4, h.name);
     put_u16(out, 6, h.picture);

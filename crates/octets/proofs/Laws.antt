@@ -1,6 +1,5 @@
 -- The laws of numbers in bytes, each over the width: a number is its low bytes and its high bytes; it fits its width; what is written is
 -- read back, and what is read is written again.
--- Assumes nothing.
 use Prim.Native.Nat.{ℕ, zero, suc, _+_, _-_, _*_, _/_, _%_, _^_, _≤_, _<_}
 use native.Mathlib.Nat.{zero-add, add-zero, suc-add, add-suc, mul-add, mul-assoc, pow-succ', pow-suc, div-lt-iff-lt-mul, mod-add-div, zero-lt-suc}
 use native.Mathlib.Numerals.{add-one}

@@ -1,5 +1,4 @@
 -- What the tests that led to a return say of a choice, and `tests`, by which `search` puts them to use.
--- Assumes nothing.
 use Prim.Native.Nat.{ℕ}
 use mathlib.Core.Path.{_≡_, sym, _∙_, ap}
 use mathlib.Core.Bool.{Bool, true, false, not}

@@ -1,5 +1,4 @@
 -- A set of small numbers, as the bits of a number.
--- Assumes nothing: these are definitions.
 use mathlib.Core.Bool.{Bool}
 use Prim.Native.Nat.{ℕ, _/_, _%_, _^_}
 use lib.Dec.{eqb}

@@ -1,4 +1,5 @@
 pub mod Pick
+pub mod Numbers
 pub mod Octets
 pub mod Bits
 pub mod Label

@@ -1,6 +1,5 @@
 -- Numbers in lists of bytes. 01, "The pool": "Numbers are least significant byte first (ISO 11783-3 and -6)."
 -- One definition each way, over the width in bytes.
--- Assumes nothing: these are definitions.
 use Prim.Native.Nat.{ℕ, zero, suc, _+_, _*_, _/_, _%_}
 use mathlib.Core.List.{List, [], _∷_}
 use lib.ListN.{getD}

@@ -8,6 +8,7 @@ ghost use Rattle.octets.specs.Octets.{numberAt, bytesOf};
 ghost use Rattle.octets.specs.Bits.{hasBit, withBit};
 
 pub mod label;
+pub mod numbers;
 
 pub fn byte_at(s: &[u8], i: usize) -> u8
     ensures { λ r. ⌜ r ≡ getD (now (s .entry)) i 0 ⌝ }

@@ -1,5 +1,4 @@
 -- What it means that two NAMEs agree under a mask, and that two labels agree.
--- Assumes nothing.
 use Prim.Native.Nat.{ℕ, zero, suc, _+_, _*_, _/_, _%_, _^_, _<_, min}
 use mathlib.Core.Path.{_≡_, refl, sym, _∙_}
 use mathlib.Core.Bool.{Bool, true, false, _&&_, true≢false}
@@ -12,8 +11,8 @@ use lib.Dec.{eqb}
 use lib.Pow.{shr-shr}
 use Rattle.octets.specs.Bits.{hasBit}
 use Rattle.octets.specs.declared.label.Label.{Label}
-use Rattle.client.specs.declared.Slot.{Slot}
 use Rattle.client.specs.declared.Client.{Client}
+use Rattle.client.specs.declared.ClientRecord.{ClientRecord}
 use Rattle.playback.specs.Verification.{agreeUnder, namesAgree, sameBytes, sameLabel}
 use Rattle.playback.specs.Promises.{SameNames, Agrees}
 
@@ -72,12 +71,12 @@ both : (a b : Bool) → (a && b) ≡ true → (a ≡ true) × (b ≡ true)
 both true b e = (refl, e)
 both false b e = absurd (true≢false (sym e))
 
-names : (s : Slot) (c : Client) → namesAgree s c ≡ true → SameNames s c
+names : (s : Client) (c : ClientRecord) → namesAgree s c ≡ true → SameNames s c
 names s c e =
     let p = both (agreeUnder (s .profile .mask) (s .name) (c .name)) (eqb (s .profile .master) (c .master)) e in
     record { bits = bits (s .profile .mask) (s .name) (c .name) (p .0); master = eqb-true _ _ (p .1) }
 
-names-only : (s : Slot) (c : Client) → s .profile .mask < 2 ^ 64 → SameNames s c → namesAgree s c ≡ true
+names-only : (s : Client) (c : ClientRecord) → s .profile .mask < 2 ^ 64 → SameNames s c → namesAgree s c ≡ true
 names-only s c h n = rw (bits-only (s .profile .mask) (s .name) (c .name) h (n .bits), eq-eqb _ _ (n .master))
 
 -- ---- labels

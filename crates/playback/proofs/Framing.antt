@@ -1,5 +1,4 @@
 -- The frames of a tick: their bytes are those of E.6, they fill 576 bytes, and they are as many as are sent and unanswered.
--- Assumes nothing.
 use Prim.Native.Nat.{ℕ, suc, _/_, _%_, _≤_, _<_}
 use mathlib.Core.Path.{_≡_, sym, ap, _∙_}
 use mathlib.Core.Bool.{Bool, true, false, cond}
@@ -9,7 +8,7 @@ use lib.ListN.{length, take, length-take}
 use Rattle.octets.specs.Pick.{pick}
 use Rattle.octets.specs.Octets as octets
 use Rattle.octets.specs.Label.{blank}
-use Rattle.message.specs.Messages.{octetOf, bytesOf}
+use Rattle.message.specs.Messages.{octetOf, messageBytes}
 use Rattle.message.specs.declared.Message.the-variants.{Command}
 use Rattle.sequence.specs.declared.Step.{Step}
 use Rattle.playback.specs.declared.Sent.{Sent}
@@ -17,15 +16,15 @@ use Rattle.playback.specs.Frames.{frameOf, isWritten, waiting, filledOf,
 use Rattle.playback.specs.Promises.{orderOf, Framing}
 use Rattle.playback.proofs.Fill.{none, length-filled}
 
-command : (s : Step) (tan : ℕ) → s .state < 64 → frameOf s tan ≡ s .slot ∷ bytesOf (Command (orderOf s tan)) blank []
-unfolding pick octets.bytesOf octetOf bytesOf
+command : (s : Step) (tan : ℕ) → s .state < 64 → frameOf s tan ≡ s .slot ∷ messageBytes (Command (orderOf s tan)) blank []
+unfolding pick octets.bytesOf octetOf messageBytes
 command s tan h =
     let a : s .state % 64 ≡ s .state = omega arith in
     let b : s .value / 256 / 256 ≡ s .value / 65536 = omega arith in
     let c : s .value / 65536 / 256 ≡ s .value / 16777216 = omega arith in
     rw (a, b, c)
 
-waiting-few : (l : List Sent) → waiting l ≤ length l
+pub waiting-few : (l : List Sent) → waiting l ≤ length l
 waiting-few [] = omega arith
 waiting-few (c ∷ l) = go (isWritten c) (waiting-few l)
   where

@@ -1,10 +1,11 @@
 pub mod Pairs
 pub mod Failing
+pub mod BySlot
 pub mod Labels
 pub mod Fill
 pub mod Leaves
 pub mod Verifies
 pub mod Agrees
-pub mod Keeps
+pub mod Changes
 pub mod Framing
 pub mod Cases

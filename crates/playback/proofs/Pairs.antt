@@ -1,5 +1,4 @@
 -- Two arrays of one length, cell by cell, and a loop that looks for the first pair of cells that passes a test.
--- Assumes nothing.
 use mathlib.Core.Path.{_≡_, refl, ap, _∙_}
 use mathlib.Core.Bool.{Bool, true, false}
 use mathlib.Core.List.{List, [], _∷_}

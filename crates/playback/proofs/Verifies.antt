@@ -1,13 +1,17 @@
 -- Verification gives 0 exactly when every check holds, and else the number of the first that does not.
--- Assumes nothing.
-use Prim.Native.Nat.{_≤_}
+use Prim.Native.Nat.{_≤_, _<_}
 use mathlib.Core.Path.{_≡_, refl, sym, ap}
 use mathlib.Core.Bool.{true, false, true≢false}
 use mathlib.Core.Logic.{_⊎_, inl, inr}
 use mathlib.Core.List.{List, [], _∷_}
 use native.Mathlib.Omega.{arith}
+use lib.ListN.{getD}
+use borrow.Author.Tests.{lt-ltb}
 use Rattle.octets.specs.Pick.{pick}
-use Rattle.playback.specs.Verification.{Check, firstFailing, checksOf, verifyOf}
+use Rattle.client.specs.Clients.{blankSlot}
+use Rattle.client.specs.declared.Client.{Client}
+use Rattle.sequence.specs.declared.Step.{Step}
+use Rattle.playback.specs.Verification.{Check, firstFailing, isListed, isInPool, checksOf, verifyOf}
 use Rattle.playback.specs.Promises.{EveryHolds, FirstFails, Verifies}
 use Rattle.playback.proofs.Failing.{Numbered, checks-numbered}
 
@@ -37,6 +41,10 @@ numbers [] k = inl refl
 numbers ((true, n) ∷ l) k = numbers l (k .1)
 numbers ((false, n) ∷ l) k = inr (k .0)
 
+bound : (slots : List Client) (s : Step) → s .slot < 8 → isInPool slots s ≡ isListed (getD slots (s .slot) blankSlot .profile) (s .function) (s .state)
+unfolding isInPool
+bound slots s h = rw (lt-ltb _ _ h)
+
 pub verifies : Verifies
 unfolding verifyOf
 verifies = record {
@@ -44,4 +52,5 @@ verifies = record {
   only = λ slots q e. only (checksOf slots q) (checks-numbered slots q) e;
   names = λ slots q h. names (checksOf slots q) h;
   numbers = λ slots q. numbers (checksOf slots q) (checks-numbered slots q);
+  bound = bound;
 }

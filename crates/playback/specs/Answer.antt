@@ -1,23 +1,17 @@
 -- 01, "Verification and playback", an answer: "An E.7 must match slot, TAN, function and state of a sent step, else 15 .. 01 marks it started, 00 and 10
 -- done, 11 aborts; a further answer for a done step, 11 or an error too, is acknowledged and changes nothing."
--- Assumes nothing: these are definitions.
 use Prim.Native.Nat.{ℕ}
 use mathlib.Core.Bool.{Bool, not, _&&_, _||_}
 use mathlib.Core.List.{List}
 use lib.Dec.{eqb, leb}
 use lib.ListN.{take, getD, set}
-use Rattle.octets.specs.Pick.{pick}
-use Rattle.message.specs.Fields.{numberOf}
-use Rattle.message.specs.declared.Reply.{Reply}
+use Rattle.octets.specs.{Pick.pick, Numbers.completed, Numbers.noMatch}
+use Rattle.message.specs.{Fields.statusNumber, declared.Reply.Reply}
 use Rattle.arrays.specs.Arrays.{some, firstFrom}
-use Rattle.sequence.specs.Sequence.{lengthOf, stepsOf}
-use Rattle.sequence.specs.declared.Step.{Step}
-use Rattle.sequence.specs.declared.Sequence.{Sequence}
-use Rattle.playback.specs.declared.Sent.{Sent}
-use Rattle.playback.specs.declared.Playback.{Playback}
-use Rattle.playback.specs.declared.Answered.{Answered}
-use Rattle.playback.specs.Pairs.{pairs}
-use Rattle.playback.specs.State.{blankSent, isUndone}
+use Rattle.sequence.specs.Sequence.{mostSteps, lengthOf, stepsOf}
+use Rattle.sequence.specs.{declared.Step.Step, declared.Sequence.Sequence}
+use Rattle.playback.specs.{declared.Sent.Sent, declared.Playback.Playback, declared.Answered.Answered, Pairs.pairs}
+use Rattle.playback.specs.State.{answerStarted, answerDone, goesOn, toReady, toAbort, blankSent, isUndone}
 
 -- "must match slot, TAN, function and state"
 abbrev pub isAnswerOf : ℕ → ℕ → ℕ → ℕ → Step → Sent → Bool
@@ -27,15 +21,15 @@ isAnswerOf slot tan function state s c =
 -- "of a sent step": its number, counted from 0, or 64 where none matches
 unfoldable pub findAnswered : List Step → List Sent → ℕ → ℕ → ℕ → ℕ → ℕ → ℕ
 findAnswered steps commands sent slot tan function state =
-    firstFrom 64 (λ x. isAnswerOf slot tan function state (x .0) (x .1)) 0 (take sent (pairs steps commands))
+    firstFrom mostSteps (λ x. isAnswerOf slot tan function state (x .0) (x .1)) 0 (take sent (pairs steps commands))
 
 -- "11 aborts", and so does "an error answer"
 abbrev pub isError : ℕ → ℕ → Bool
-isError status error = leb 3 status || not (eqb error 0)
+isError status error = leb 0b11 status || not (eqb error 0)
 
 -- "01 marks it started, 00 and 10 done"
-unfoldable pub markOf : ℕ → ℕ
-markOf status = pick (eqb status 1) 1 2
+unfoldable pub answerFrom : ℕ → ℕ
+answerFrom status = pick (eqb status 0b01) answerStarted answerDone
 
 -- step i has this answer
 unfoldable pub withAnswer : Playback → ℕ → ℕ → Playback
@@ -56,17 +50,17 @@ unfoldable pub isAllDone : Playback → ℕ → Bool
 isAllDone p count = leb count (p .sent) && not (someUndone (p .sent) (p .commands))
 
 -- "else 15"; "a further answer for a done step, 11 or an error too, .. changes nothing"; "11 aborts"; "01 marks it started, 00 and 10 done"; "Playback
--- goes to ready when all steps are done". over: 0 it goes on, 1 all steps are done, 2 it aborts
+-- goes to ready when all steps are done"
 unfoldable pub answeredOf : Playback → Sequence → ℕ → Reply → Answered
 answeredOf p sequence slot reply =
     let i = findAnswered (sequence .steps) (p .commands) (p .sent) slot (reply .tan) (reply .function) (reply .state) in
-    let status = numberOf (reply .status) in
-    let q = withAnswer p i (markOf status) in
-    pick (leb 64 i) (record { number = 15; over = 0; playback = p })
-    (pick (eqb (getD (p .commands) i blankSent .answer) 2) (record { number = 0; over = 0; playback = p })
-    (pick (isError status (reply .error)) (record { number = 0; over = 2; playback = p })
-    (pick (isAllDone q (lengthOf sequence)) (record { number = 0; over = 1; playback = q })
-    (record { number = 0; over = 0; playback = q }))))
+    let status = statusNumber (reply .status) in
+    let q = withAnswer p i (answerFrom status) in
+    pick (leb mostSteps i) (record { number = noMatch; end = goesOn; playback = p })
+    (pick (eqb (getD (p .commands) i blankSent .answer) answerDone) (record { number = completed; end = goesOn; playback = p })
+    (pick (isError status (reply .error)) (record { number = completed; end = toAbort; playback = p })
+    (pick (isAllDone q (lengthOf sequence)) (record { number = completed; end = toReady; playback = q })
+    (record { number = completed; end = goesOn; playback = q }))))
 
 -- ---- an E.4 of status 11 in playback: "if that client's function is a step of the sequence"
 

@@ -1,16 +1,13 @@
 -- 01, "Verification and playback", the frames of a tick: "then each sent, unanswered step is written in one frame, oldest first. A tick fills a frame
 -- buffer of 576 bytes, nine to a frame: slot, then the eight of E.6; the rest are 00. Bytes past 576 stay. The frame count is the number of sent,
 -- unanswered steps after the tick."
--- Assumes nothing: these are definitions.
 use Prim.Native.Nat.{ℕ, suc, _/_, _%_}
 use mathlib.Core.Bool.{Bool, cond}
 use mathlib.Core.List.{List, [], _∷_, _++_}
 use lib.ListN.{take}
 use Rattle.arrays.specs.Arrays.{padTo}
 use Rattle.sequence.specs.declared.Step.{Step}
-use Rattle.playback.specs.declared.Sent.{Sent}
-use Rattle.playback.specs.declared.Playback.{Playback}
-use Rattle.playback.specs.State.{isUnanswered}
+use Rattle.playback.specs.{declared.Sent.Sent, declared.Playback.Playback, State.isUnanswered}
 
 -- "slot, then the eight of E.6": code 33, function, state, TAN, and the value, least significant byte first
 abbrev pub frameOf : Step → ℕ → List ℕ

@@ -1,5 +1,4 @@
 -- Two arrays, cell by cell.
--- Assumes nothing: this is a definition.
 use mathlib.Core.List.{List, [], _∷_}
 
 -- the first with the first, the second with the second, up to the end of one of them

@@ -1,28 +1,22 @@
 -- What holds of the definitions that the contracts cite.
--- Assumes nothing: these are statements.
 use Prim.Native.Nat.{ℕ, _^_, _≤_, _<_}
 use mathlib.Core.Path.{_≡_}
-use mathlib.Core.Bool.{true, false}
+use mathlib.Core.Bool.{true, false, _&&_}
 use mathlib.Core.Logic.{_⊎_}
 use mathlib.Core.List.{List, [], _∷_, _++_}
+use lib.Dec.{ltb}
 use lib.ListN.{length, getD, replicate}
-use Rattle.octets.specs.Bits.{hasBit}
-use Rattle.octets.specs.Label.{blank}
-use Rattle.octets.specs.declared.label.Label.{Label}
-use Rattle.message.specs.Messages.{bytesOf}
-use Rattle.message.specs.declared.Order.{Order}
-use Rattle.message.specs.declared.Reply.{Reply}
-use Rattle.message.specs.declared.Message.the-variants.{Command}
-use Rattle.client.specs.declared.Slot.{Slot}
-use Rattle.client.specs.declared.Client.{Client}
-use Rattle.sequence.specs.declared.Step.{Step}
-use Rattle.sequence.specs.declared.Sequence.{Sequence}
-use Rattle.playback.specs.declared.Playback.{Playback}
-use Rattle.playback.specs.State.{blankSent, blankPlayback}
-use Rattle.playback.specs.Verification.{Check, namesAgree, sameLabel, checksOf, verifyOf}
-use Rattle.playback.specs.Tick.{tickOf}
+use Rattle.octets.specs.{Bits.hasBit, Label.blank, declared.label.Label.Label}
+use Rattle.octets.specs.Numbers.{completed, noStep, notReady, noMatch}
+use Rattle.message.specs.{Messages.messageBytes, declared.Order.Order, declared.Reply.Reply, declared.Message.the-variants.Command}
+use Rattle.client.specs.{Clients.slotCount, Clients.blankSlot, declared.Client.Client, declared.ClientRecord.ClientRecord}
+use Rattle.sequence.specs.Sequence.{mostSteps, blankStep, lengthOf}
+use Rattle.sequence.specs.{declared.Step.Step, declared.Sequence.Sequence}
+use Rattle.playback.specs.{declared.Playback.Playback, Answer.findAnswered, Answer.answeredOf}
+use Rattle.playback.specs.State.{answerDone, goesOn, toAbort, blankSent, blankPlayback}
+use Rattle.playback.specs.Verification.{Check, namesAgree, sameLabel, isListed, isInPool, checksOf, verifyOf}
+use Rattle.playback.specs.Tick.{isDue, doesLeave, tickOf}
 use Rattle.playback.specs.Frames.{frameOf, waitingOf, framesOf}
-use Rattle.playback.specs.Answer.{findAnswered, answeredOf}
 
 -- ---- verification
 
@@ -40,20 +34,23 @@ pub record FirstFails (checks : List Check) (number : ℕ) : Type 0 where
 
 -- "starts exactly when" every check holds; otherwise the first that does not is named
 pub record Verifies : Type 0 where
-  pub starts : (slots : List Slot) (q : Sequence) → EveryHolds (checksOf slots q) → verifyOf slots q ≡ 0
-  pub only : (slots : List Slot) (q : Sequence) → verifyOf slots q ≡ 0 → EveryHolds (checksOf slots q)
-  pub names : (slots : List Slot) (q : Sequence) → (verifyOf slots q ≡ 0 → ⊥) → FirstFails (checksOf slots q) (verifyOf slots q)
-  pub numbers : (slots : List Slot) (q : Sequence) → (verifyOf slots q ≡ 0) ⊎ ((7 ≤ verifyOf slots q) × (verifyOf slots q ≤ 12))
+  pub starts : (slots : List Client) (q : Sequence) → EveryHolds (checksOf slots q) → verifyOf slots q ≡ completed
+  pub only : (slots : List Client) (q : Sequence) → verifyOf slots q ≡ completed → EveryHolds (checksOf slots q)
+  pub names : (slots : List Client) (q : Sequence) → (verifyOf slots q ≡ completed → ⊥) → FirstFails (checksOf slots q) (verifyOf slots q)
+  pub numbers : (slots : List Client) (q : Sequence) → (verifyOf slots q ≡ completed) ⊎ ((noStep ≤ verifyOf slots q) × (verifyOf slots q ≤ notReady))
+  -- the bound that a step's slot is held against, which 01 does not have, never decides where every slot is one of the eight
+  pub bound :
+      (slots : List Client) (s : Step) → s .slot < slotCount → isInPool slots s ≡ isListed (getD slots (s .slot) blankSlot .profile) (s .function) (s .state)
 
 -- "NAMEs agree if they agree on every bit set in the loaded pool's mask. The master NAME must agree in all 64 bits."
-pub record SameNames (s : Slot) (c : Client) : Type 0 where
+pub record SameNames (s : Client) (c : ClientRecord) : Type 0 where
   pub bits : (k : ℕ) → k < 64 → hasBit (s .profile .mask) k ≡ true → hasBit (s .name) k ≡ hasBit (c .name) k
   pub master : s .profile .master ≡ c .master
 
 -- the tests of NAMEs and labels say no more and no less; a mask has 64 bits
 pub record Agrees : Type 0 where
-  pub names : (s : Slot) (c : Client) → namesAgree s c ≡ true → SameNames s c
-  pub names-only : (s : Slot) (c : Client) → s .profile .mask < 2 ^ 64 → SameNames s c → namesAgree s c ≡ true
+  pub names : (s : Client) (c : ClientRecord) → namesAgree s c ≡ true → SameNames s c
+  pub names-only : (s : Client) (c : ClientRecord) → s .profile .mask < 2 ^ 64 → SameNames s c → namesAgree s c ≡ true
   pub labels : (a b : Label) → sameLabel a b ≡ true → (a .length ≡ b .length) × (a .bytes ≡ b .bytes)
   pub labels-only : (a b : Label) → a .length ≡ b .length → a .bytes ≡ b .bytes → sameLabel a b ≡ true
 
@@ -61,27 +58,31 @@ pub record Agrees : Type 0 where
 
 -- what every playback has that starts, and ticks and answers keep: at most 64 steps are sent, and cells past them are blank
 pub record Tidy (p : Playback) : Type 0 where
-  pub few : p .sent ≤ 64
-  pub cells : length (p .commands) ≡ 64
+  pub few : p .sent ≤ mostSteps
+  pub cells : length (p .commands) ≡ mostSteps
   pub blanks : (i : ℕ) → p .sent ≤ i → getD (p .commands) i blankSent ≡ blankSent
 
-pub record Keeps : Type 0 where
+pub record Changes : Type 0 where
   pub starting : Tidy blankPlayback
   pub ticking : (p : Playback) (q : Sequence) (tan mm : ℕ) → Tidy p → Tidy (tickOf p q tan mm .playback)
   pub answering : (p : Playback) (q : Sequence) (slot : ℕ) (r : Reply) → Tidy p → Tidy (answeredOf p q slot r .playback)
+  -- nor does the bound that the number of sent steps is held against: there are no more steps than cells
+  pub bound :
+      (p : Playback) (q : Sequence)
+      → doesLeave p (q .steps) (lengthOf q) ≡ (ltb (p .sent) (lengthOf q) && isDue (getD (q .steps) (p .sent) blankStep) (p .ticks) (p .distance))
   -- a tick that ends the playback sends nothing
   pub ending :
-      (p : Playback) (q : Sequence) (tan mm : ℕ) → tickOf p q tan mm .ended ≡ 1
+      (p : Playback) (q : Sequence) (tan mm : ℕ) → tickOf p q tan mm .end ≡ toAbort
       → (tickOf p q tan mm .tan ≡ tan) × (tickOf p q tan mm .playback .sent ≡ p .sent) × (tickOf p q tan mm .playback .commands ≡ p .commands)
   -- "a further answer for a done step, 11 or an error too, is acknowledged and changes nothing"
   pub further :
       (p : Playback) (q : Sequence) (slot : ℕ) (r : Reply) (i : ℕ)
       → findAnswered (q .steps) (p .commands) (p .sent) slot (r .tan) (r .function) (r .state) ≡ i
-      → i < 64 → getD (p .commands) i blankSent .answer ≡ 2
-      → answeredOf p q slot r ≡ record { number = 0; over = 0; playback = p }
+      → i < mostSteps → getD (p .commands) i blankSent .answer ≡ answerDone
+      → answeredOf p q slot r ≡ record { number = completed; end = goesOn; playback = p }
   -- "else 15": an answer that matches no sent step changes nothing
   pub unmatched :
-      (p : Playback) (q : Sequence) (slot : ℕ) (r : Reply) → answeredOf p q slot r .number ≡ 15 → answeredOf p q slot r .playback ≡ p
+      (p : Playback) (q : Sequence) (slot : ℕ) (r : Reply) → answeredOf p q slot r .number ≡ noMatch → answeredOf p q slot r .playback ≡ p
 
 -- ---- frames
 
@@ -90,8 +91,8 @@ orderOf s tan = record { function = s .function; state = s .state; tan = tan; va
 
 pub record Framing : Type 0 where
   -- "slot, then the eight of E.6", as they are written
-  pub command : (s : Step) (tan : ℕ) → s .state < 64 → frameOf s tan ≡ s .slot ∷ bytesOf (Command (orderOf s tan)) blank []
+  pub command : (s : Step) (tan : ℕ) → s .state < 64 → frameOf s tan ≡ s .slot ∷ messageBytes (Command (orderOf s tan)) blank []
   pub bytes : (p : Playback) (steps : List Step) → length (framesOf p steps) ≡ 576
-  pub few : (p : Playback) → length (p .commands) ≡ 64 → waitingOf (p .sent) (p .commands) ≤ 64
+  pub few : (p : Playback) → length (p .commands) ≡ mostSteps → waitingOf (p .sent) (p .commands) ≤ mostSteps
   pub sent : (p : Playback) → waitingOf (p .sent) (p .commands) ≤ p .sent
   pub none : (p : Playback) (steps : List Step) → p .sent ≡ 0 → framesOf p steps ≡ replicate 576 0

@@ -1,6 +1,5 @@
 -- 01, "Verification and playback", a tick: "count it; at tick 36,000 abort; if a sent step has no answer 16 ticks after it first left, abort; else the
 -- next step in order leaves if due, one new step a tick".
--- Assumes nothing: these are definitions.
 use Prim.Native.Nat.{ℕ, _+_}
 use mathlib.Core.Bool.{Bool, false, not, _&&_, _||_}
 use mathlib.Core.List.{List}
@@ -8,27 +7,29 @@ use lib.Dec.{eqb, leb, ltb}
 use lib.ListN.{take, getD, set}
 use Rattle.octets.specs.Pick.{pick}
 use Rattle.arrays.specs.Arrays.{some, more}
-use Rattle.sequence.specs.Sequence.{blankStep, lengthOf}
-use Rattle.sequence.specs.declared.Step.{Step}
-use Rattle.sequence.specs.declared.Sequence.{Sequence}
-use Rattle.playback.specs.declared.Sent.{Sent}
-use Rattle.playback.specs.declared.Playback.{Playback}
-use Rattle.playback.specs.declared.Ticked.{Ticked}
+use Rattle.sequence.specs.Sequence.{mostSteps, lastTick, blankStep, lengthOf}
+use Rattle.sequence.specs.{declared.Step.Step, declared.Sequence.Sequence}
+use Rattle.playback.specs.{declared.Sent.Sent, declared.Playback.Playback, declared.Ticked.Ticked}
+use Rattle.playback.specs.State.{answerNone, goesOn, toAbort, isUnanswered}
 
 -- "count it", and the millimetres that it brings
-unfoldable pub countedOf : Playback → ℕ → Playback
-countedOf p mm = record { ticks = more (p .ticks) 1; distance = more (p .distance) mm; sent = p .sent; commands = p .commands }
+unfoldable pub countedPlayback : Playback → ℕ → Playback
+countedPlayback p mm = record { ticks = more (p .ticks) 1; distance = more (p .distance) mm; sent = p .sent; commands = p .commands }
+
+-- "no answer 16 ticks after it first left"
+abbrev pub answerTicks : ℕ
+answerTicks = 16
 
 -- "a sent step has no answer 16 ticks after it first left"
 abbrev pub isLate : ℕ → Sent → Bool
-isLate ticks c = eqb (c .answer) 0 && leb (c .left + 16) ticks
+isLate ticks c = isUnanswered c && leb (c .left + answerTicks) ticks
 
 unfoldable pub someLate : ℕ → ℕ → List Sent → Bool
 someLate ticks sent commands = some (isLate ticks) (take sent commands)
 
 -- "at tick 36,000 abort; if a sent step has no answer 16 ticks after it first left, abort"
 unfoldable pub doesStop : Playback → Bool
-doesStop p = leb 36000 (p .ticks) || someLate (p .ticks) (p .sent) (p .commands)
+doesStop p = leb lastTick (p .ticks) || someLate (p .ticks) (p .sent) (p .commands)
 
 -- a step is due at its mark, which is in ticks, or in millimetres where `distance` is not 0
 abbrev pub isDue : Step → ℕ → ℕ → Bool
@@ -37,7 +38,7 @@ isDue s ticks distance = (eqb (s .distance) 0 && leb (s .mark) ticks) || (not (e
 -- "the next step in order leaves if due": step number `sent`, counted from 0, if there is one
 unfoldable pub doesLeave : Playback → List Step → ℕ → Bool
 doesLeave p steps count =
-    pick (leb 64 (p .sent)) false
+    pick (leb mostSteps (p .sent)) false
     (ltb (p .sent) count && isDue (getD steps (p .sent) blankStep) (p .ticks) (p .distance))
 
 -- "The TAN .. rises by 1 before each new command, 255 to 0."
@@ -45,19 +46,19 @@ unfoldable pub nextTan : ℕ → ℕ
 nextTan tan = pick (leb 255 tan) 0 (tan + 1)
 
 -- the next step has left, at this tick, with this TAN
-unfoldable pub leftOf : Playback → ℕ → Playback
-leftOf p tan =
+unfoldable pub afterLeaving : Playback → ℕ → Playback
+afterLeaving p tan =
     record {
       ticks = p .ticks;
       distance = p .distance;
       sent = p .sent + 1;
-      commands = set (p .commands) (p .sent) (record { tan = tan; answer = 0; left = p .ticks });
+      commands = set (p .commands) (p .sent) (record { tan = tan; answer = answerNone; left = p .ticks });
     }
 
--- "count it; .. abort; else the next step in order leaves if due, one new step a tick"; ended is 1 where it aborts
+-- "count it; .. abort; else the next step in order leaves if due, one new step a tick"
 unfoldable pub tickOf : Playback → Sequence → ℕ → ℕ → Ticked
 tickOf p sequence tan mm =
-    let q = countedOf p mm in
-    pick (doesStop q) (record { ended = 1; tan = tan; playback = q })
-    (pick (not (doesLeave q (sequence .steps) (lengthOf sequence))) (record { ended = 0; tan = tan; playback = q })
-    (record { ended = 0; tan = nextTan tan; playback = leftOf q (nextTan tan) }))
+    let q = countedPlayback p mm in
+    pick (doesStop q) (record { end = toAbort; tan = tan; playback = q })
+    (pick (not (doesLeave q (sequence .steps) (lengthOf sequence))) (record { end = goesOn; tan = tan; playback = q })
+    (record { end = goesOn; tan = nextTan tan; playback = afterLeaving q (nextTan tan) }))

@@ -1,23 +1,17 @@
 -- 01, "Verification and playback": "Start, from ready: 7; then for each slot of the sequence, lowest first, 8, 9 and 10 before the next slot; then by
 -- step 11; then by slot 12. NAMEs agree if they agree on every bit set in the loaded pool's mask. The master NAME must agree in all 64 bits."
--- Assumes nothing: these are definitions.
-use Prim.Native.Nat.{ℕ}
+use Prim.Native.Nat.{ℕ, _-_, min}
 use mathlib.Core.Bool.{Bool, true, false, not, _&&_}
 use mathlib.Core.List.{List, [], _∷_, _++_, flatMap}
 use lib.Bits.{bitAnd}
 use lib.Dec.{eqb, ltb}
 use lib.ListN.{getD}
-use Rattle.octets.specs.Pick.{pick}
-use Rattle.octets.specs.declared.label.Label.{Label}
-use Rattle.profile.specs.Profile.{trigger, hasState}
-use Rattle.profile.specs.declared.Profile.{Profile}
-use Rattle.client.specs.Clients.{ready, isEnabled, blankSlot}
-use Rattle.client.specs.Records.{isUsed}
-use Rattle.client.specs.declared.Slot.{Slot}
-use Rattle.client.specs.declared.Client.{Client}
-use Rattle.sequence.specs.Sequence.{stepsOf}
-use Rattle.sequence.specs.declared.Step.{Step}
-use Rattle.sequence.specs.declared.Sequence.{Sequence}
+use Rattle.octets.specs.{Pick.pick, declared.label.Label.Label}
+use Rattle.octets.specs.Numbers.{completed, noStep, notEnabled, nameDiffers, labelDiffers, notInPool, notReady}
+use Rattle.profile.specs.{Profile.trigger, Profile.hasState, declared.Profile.Profile}
+use Rattle.client.specs.Clients.{slotCount, readyReport, isEnabled, blankSlot}
+use Rattle.client.specs.{Records.isUsed, declared.Client.Client, declared.ClientRecord.ClientRecord}
+use Rattle.sequence.specs.{Sequence.stepsOf, declared.Step.Step, declared.Sequence.Sequence}
 use Rattle.playback.specs.Pairs.{pairs}
 
 -- ---- a list of checks, each with its number
@@ -28,7 +22,7 @@ Check = Bool × ℕ
 
 -- the number of the first check that does not hold, and 0 where all hold
 unfoldable pub firstFailing : List Check → ℕ
-firstFailing [] = 0
+firstFailing [] = completed
 firstFailing (c ∷ cs) = let later : ℕ = firstFailing cs in pick (c .0) later (c .1)
 
 -- ---- NAMEs
@@ -39,7 +33,7 @@ agreeUnder mask a b = eqb (bitAnd a mask) (bitAnd b mask)
 
 -- the NAMEs of a client, loaded and recorded: "NAMEs agree if they agree on every bit set in the loaded pool's mask. The master NAME must agree in all
 -- 64 bits."
-abbrev pub namesAgree : Slot → Client → Bool
+abbrev pub namesAgree : Client → ClientRecord → Bool
 namesAgree s c = agreeUnder (s .profile .mask) (s .name) (c .name) && eqb (s .profile .master) (c .master)
 
 -- ---- labels
@@ -55,7 +49,7 @@ unfoldable pub sameLabel : Label → Label → Bool
 sameLabel a b = eqb (a .length) (b .length) && sameBytes (a .bytes) (b .bytes)
 
 -- "10 a label differs": both are the version label and the configuration label
-unfoldable pub labelsAgree : Slot → Client → Bool
+unfoldable pub labelsAgree : Client → ClientRecord → Bool
 labelsAgree s c = sameLabel (s .profile .version) (c .version) && sameLabel (s .profile .configuration) (c .configuration)
 
 -- ---- pools
@@ -65,34 +59,42 @@ unfoldable pub isListed : Profile → ℕ → ℕ → Bool
 isListed pool function state = ltb state 64 && not (eqb (trigger pool function) 0) && hasState pool function state
 
 -- in the pool loaded in the step's slot; above slot 7 there is none
-unfoldable pub isInPool : List Slot → Step → Bool
-isInPool slots s = ltb (s .slot) 8 && isListed (getD slots (s .slot) blankSlot .profile) (s .function) (s .state)
+unfoldable pub isInPool : List Client → Step → Bool
+isInPool slots s = ltb (s .slot) slotCount && isListed (getD slots (s .slot) blankSlot .profile) (s .function) (s .state)
+
+-- how the steps are looked for, slot by slot. The slot whose pool is asked for a step: its own, or the last where there is none
+abbrev pub askedSlot : Step → ℕ
+askedSlot s = min (s .slot) (slotCount - 1)
+
+-- the step is to be found in this pool, of this slot, and is not
+abbrev pub isMissing : Profile → ℕ → Step → Bool
+isMissing pool slot s = eqb (askedSlot s) slot && not (ltb (s .slot) slotCount && isListed pool (s .function) (s .state))
 
 -- ---- the checks of a start
 
 -- "for each slot of the sequence": a slot whose client has a record in it; for any other there is no check
-unfoldable pub ofSequence : Client → List Check → List Check
+unfoldable pub ofSequence : ClientRecord → List Check → List Check
 ofSequence c checks = pick (isUsed c) checks []
 
 -- "8 a client of the sequence is not enabled", "9 a NAME differs", "10 a label differs"
-unfoldable pub clientChecks : Slot × Client → List Check
-clientChecks x = ofSequence (x .1) ((isEnabled (x .0), 8) ∷ (namesAgree (x .0) (x .1), 9) ∷ (labelsAgree (x .0) (x .1), 10) ∷ [])
+unfoldable pub clientChecks : Client × ClientRecord → List Check
+clientChecks x = ofSequence (x .1) ((isEnabled (x .0), notEnabled) ∷ (namesAgree (x .0) (x .1), nameDiffers) ∷ (labelsAgree (x .0) (x .1), labelDiffers) ∷ [])
 
 -- "11 function or state not in the loaded pool"
-unfoldable pub stepChecks : List Slot → Step → List Check
-stepChecks slots s = (isInPool slots s, 11) ∷ []
+unfoldable pub stepChecks : List Client → Step → List Check
+stepChecks slots s = (isInPool slots s, notInPool) ∷ []
 
 -- "12 a client is not reporting ready"
-unfoldable pub readyChecks : Slot × Client → List Check
-readyChecks x = ofSequence (x .1) ((eqb (x .0 .report) ready, 12) ∷ [])
+unfoldable pub readyChecks : Client × ClientRecord → List Check
+readyChecks x = ofSequence (x .1) ((eqb (x .0 .report) readyReport, notReady) ∷ [])
 
 -- "7; then for each slot of the sequence, lowest first, 8, 9 and 10 before the next slot; then by step 11; then by slot 12"
-unfoldable pub checksOf : List Slot → Sequence → List Check
+unfoldable pub checksOf : List Client → Sequence → List Check
 checksOf slots q =
-    (not (eqb (q .count) 0), 7)
-    ∷ flatMap clientChecks (pairs slots (q .clients))
+    (not (eqb (q .count) 0), noStep)
+    ∷ flatMap clientChecks (pairs slots (q .records))
     ++ (flatMap (stepChecks slots) (stepsOf q)
-    ++ flatMap readyChecks (pairs slots (q .clients)))
+    ++ flatMap readyChecks (pairs slots (q .records)))
 
-unfoldable pub verifyOf : List Slot → Sequence → ℕ
+unfoldable pub verifyOf : List Client → Sequence → ℕ
 verifyOf slots q = firstFailing (checksOf slots q)

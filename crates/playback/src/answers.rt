@@ -3,8 +3,11 @@ ghost use mathlib.Core.Path.{_≡_};
 ghost use lib.ListN.{take};
 ghost use Rattle.arrays.specs.Arrays.{some};
 ghost use Rattle.playback.specs.State.{isUndone};
-ghost use Rattle.playback.specs.Answer.{isAnswerOf, findAnswered, isError, markOf, someUndone, isFunctionOf};
+ghost use Rattle.playback.specs.Answer.{isAnswerOf, findAnswered, isError, answerFrom, someUndone, isFunctionOf};
+use crate::ANSWER_DONE;
+use crate::ANSWER_STARTED;
 use crate::Sent;
+use sequence::MOST_STEPS;
 use sequence::Step;
 
 fn is_answer_of(s: Step, c: Sent, slot: u8, tan: u8, function: u8, state: u8) -> bool
@@ -15,8 +18,8 @@ fn is_answer_of(s: Step, c: Sent, slot: u8, tan: u8, function: u8, state: u8) ->
 
 // The number of the sent step that an answer matches, or 64.
 pub fn find(
-    steps: [Step; 64],
-    commands: [Sent; 64],
+    steps: [Step; MOST_STEPS],
+    commands: [Sent; MOST_STEPS],
     sent: usize,
     slot: u8,
     tan: u8,
@@ -26,44 +29,44 @@ pub fn find(
     ensures { λ r. ⌜ r ≡ findAnswered steps commands sent slot tan function state ⌝ }
 {
     let mut i: usize = 0;
-    while i < 64 {
+    while i < MOST_STEPS {
         if i >= sent {
-            return 64;
+            return MOST_STEPS;
         }
         if is_answer_of(steps[i], commands[i], slot, tan, function, state) {
             return i;
         }
         i += 1;
     }
-    64
+    MOST_STEPS
 }
 
 pub fn is_error(status: u8, error: u8) -> bool
     ensures { λ r. ⌜ r ≡ isError status error ⌝ }
 {
-    (status >= 3) | (error != 0)
+    (status >= 0b11) | (error != 0)
 }
 
-pub fn mark_of(status: u8) -> u8
-    ensures { λ r. ⌜ r ≡ markOf status ⌝ }
+pub fn answer_from(status: u8) -> u8
+    ensures { λ r. ⌜ r ≡ answerFrom status ⌝ }
 {
-    if status == 1 {
-        return 1;
+    if status == 0b01 {
+        return ANSWER_STARTED;
     }
-    2
+    ANSWER_DONE
 }
 
 fn is_undone(c: Sent) -> bool
     ensures { λ r. ⌜ r ≡ isUndone c ⌝ }
 {
-    c.answer != 2
+    c.answer != ANSWER_DONE
 }
 
-pub fn some_undone(commands: [Sent; 64], sent: usize) -> bool
+pub fn some_undone(commands: [Sent; MOST_STEPS], sent: usize) -> bool
     ensures { λ r. ⌜ r ≡ someUndone sent commands ⌝ }
 {
     let mut i: usize = 0;
-    while i < 64 {
+    while i < MOST_STEPS {
         if i >= sent {
             return false;
         }
@@ -81,11 +84,11 @@ fn is_function_of(s: Step, slot: u8, function: u8) -> bool
     (s.slot == slot) & (s.function == function)
 }
 
-pub fn some_function(steps: [Step; 64], count: usize, slot: u8, function: u8) -> bool
+pub fn some_function(steps: [Step; MOST_STEPS], count: usize, slot: u8, function: u8) -> bool
     ensures { λ r. ⌜ r ≡ some (isFunctionOf slot function) (take count steps) ⌝ }
 {
     let mut i: usize = 0;
-    while i < 64 {
+    while i < MOST_STEPS {
         if i >= count {
             return false;
         }

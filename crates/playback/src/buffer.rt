@@ -4,7 +4,9 @@ ghost use Prim.Native.Nat.{_+_, _≤_, _%_};
 ghost use lib.ListN.{replicate};
 ghost use lib.Seq.{sets};
 ghost use Rattle.playback.specs.Frames.{frameOf, isWritten, filledOf, waitingOf};
+use crate::ANSWER_NONE;
 use crate::Sent;
+use sequence::MOST_STEPS;
 use sequence::Step;
 
 fn low(x: u32) -> u8
@@ -17,7 +19,7 @@ fn low(x: u32) -> u8
 fn is_written(c: Sent) -> bool
     ensures { λ r. ⌜ r ≡ isWritten c ⌝ }
 {
-    c.answer == 0
+    c.answer == ANSWER_NONE
 }
 
 // One frame, written from a place on.
@@ -37,14 +39,19 @@ fn put_frame(out: &mut [u8; 576], at: usize, step: Step, tan: u8)
 }
 
 // The frames of what is written, one after the other, into a buffer of zeros; how many they are.
-pub fn fill(commands: [Sent; 64], sent: usize, steps: [Step; 64], out: &mut [u8; 576]) -> u32
+pub fn fill(
+    commands: [Sent; MOST_STEPS],
+    sent: usize,
+    steps: [Step; MOST_STEPS],
+    out: &mut [u8; 576],
+) -> u32
     requires { ⌜ now out ≡ replicate 576 0 ⌝ }
     ensures { λ r. ⌜ r ≡ waitingOf sent commands ⌝ }
     ensures { λ _. ⌜ now (out .exit) ≡ filledOf sent steps commands ⌝ }
 {
     let mut n: usize = 0;
     let mut i: usize = 0;
-    while i < 64 {
+    while i < MOST_STEPS {
         if i >= sent {
             return n as u32;
         }

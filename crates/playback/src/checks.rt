@@ -1,14 +1,31 @@
-// The checks of a start: each gives 0 where it holds, else its number.
+// The checks of a start: each is done where it holds, and else gives its number.
 ghost use mathlib.Core.Path.{_≡_};
-ghost use mathlib.Core.List.{flatMap};
+ghost use mathlib.Core.Bool.{not, _&&_};
+ghost use mathlib.Core.List.{_++_, flatMap};
+ghost use lib.Dec.{eqb, ltb};
 ghost use lib.ListN.{take};
+ghost use Rattle.octets.specs.Bits.{hasBit};
+ghost use Rattle.arrays.specs.Arrays.{some};
+ghost use Rattle.client.specs.Clients.{slotCount};
+ghost use Rattle.sequence.specs.Sequence.{stepsOf};
 ghost use Rattle.playback.specs.Pairs.{pairs};
-ghost use Rattle.playback.specs.Verification.{firstFailing, agreeUnder, namesAgree, sameBytes, sameLabel, labelsAgree, isListed, isInPool, clientChecks, stepChecks, readyChecks};
+ghost use Rattle.playback.specs.Verification.{firstFailing, agreeUnder, namesAgree, sameBytes, sameLabel, labelsAgree, askedSlot, isMissing, clientChecks, stepChecks, readyChecks};
+use arrays::at_most;
 use client::Client;
+use client::ClientRecord;
 use client::READY;
-use client::Slot;
+use client::SLOTS;
+use octets::has_bit;
 use octets::label::Label;
+use octets::numbers::DONE;
+use octets::numbers::LABEL_DIFFERS;
+use octets::numbers::NAME_DIFFERS;
+use octets::numbers::NOT_ENABLED;
+use octets::numbers::NOT_IN_POOL;
+use octets::numbers::NOT_READY;
 use profile::Profile;
+use sequence::MOST_STEPS;
+use sequence::Sequence;
 use sequence::Step;
 
 // Two NAMEs agree on every bit that is set in the mask.
@@ -18,11 +35,11 @@ fn agree_under(mask: u64, a: u64, b: u64) -> bool
     (a & mask) == (b & mask)
 }
 
-fn names_agree(slot: Slot, client: Client) -> bool
-    ensures { λ r. ⌜ r ≡ namesAgree slot client ⌝ }
+fn names_agree(client: Client, recorded: ClientRecord) -> bool
+    ensures { λ r. ⌜ r ≡ namesAgree client recorded ⌝ }
 {
-    let profile = slot.profile;
-    agree_under(profile.mask, slot.name, client.name) & (profile.master == client.master)
+    let profile = client.profile;
+    agree_under(profile.mask, client.name, recorded.name) & (profile.master == recorded.master)
 }
 
 fn same_bytes(a: [u8; 63], b: [u8; 63]) -> bool
@@ -46,119 +63,108 @@ fn same_label(a: Label, b: Label) -> bool
     (a.length == b.length) & same_bytes(these, those)
 }
 
-fn labels_agree(slot: Slot, client: Client) -> bool
-    ensures { λ r. ⌜ r ≡ labelsAgree slot client ⌝ }
+fn labels_agree(client: Client, recorded: ClientRecord) -> bool
+    ensures { λ r. ⌜ r ≡ labelsAgree client recorded ⌝ }
 {
-    let profile = slot.profile;
+    let profile = client.profile;
     let version = profile.version;
     let configuration = profile.configuration;
-    let old_version = client.version;
-    let old_configuration = client.configuration;
+    let old_version = recorded.version;
+    let old_configuration = recorded.configuration;
     same_label(version, old_version) & same_label(configuration, old_configuration)
 }
 
-// 8, 9, 10; 0 also where the slot is not one of the sequence.
-fn client_check(slot: Slot, client: Client) -> u8
-    ensures { λ r. ⌜ r ≡ firstFailing (clientChecks (slot, client)) ⌝ }
+// 8, 9, 10; done also where the slot is not one of the sequence.
+fn client_check(client: Client, recorded: ClientRecord) -> u8
+    ensures { λ r. ⌜ r ≡ firstFailing (clientChecks (client, recorded)) ⌝ }
 {
-    if client.used == 0 {
-        return 0;
+    if recorded.used == 0 {
+        return DONE;
     }
-    if !slot.is_enabled() {
-        return 8;
+    if !client.is_enabled() {
+        return NOT_ENABLED;
     }
-    if !names_agree(slot, client) {
-        return 9;
+    if !names_agree(client, recorded) {
+        return NAME_DIFFERS;
     }
-    if !labels_agree(slot, client) {
-        return 10;
+    if !labels_agree(client, recorded) {
+        return LABEL_DIFFERS;
     }
-    0
+    DONE
 }
 
-pub fn first_client_check(slots: [Slot; 8], clients: [Client; 8]) -> u8
-    ensures { λ r. ⌜ r ≡ firstFailing (flatMap clientChecks (pairs slots clients)) ⌝ }
-{
-    let mut i: usize = 0;
-    while i < 8 {
-        let number = client_check(slots[i], clients[i]);
-        if number != 0 {
-            return number;
-        }
-        i += 1;
-    }
-    0
-}
-
-// The pool lists the function, with this state.
-fn is_listed(profile: Profile, function: u8, state: u8) -> bool
-    ensures { λ r. ⌜ r ≡ isListed profile function state ⌝ }
+// The pool lists the function, with this state: by the function's trigger and its states in the tables of the pool.
+fn is_listed(trigger: u8, states: u64, state: u8) -> bool
+    ensures { λ r. ⌜ r ≡ (ltb state 64 && not (eqb trigger 0) && hasBit states state) ⌝ }
 {
     if state >= 64 {
         return false;
     }
-    (profile.trigger_of(function) != 0) & profile.has_state(function, state)
+    (trigger != 0) & has_bit(states, state as u64)
 }
 
-fn is_in_pool(slots: [Slot; 8], step: Step) -> bool
-    ensures { λ r. ⌜ r ≡ isInPool slots step ⌝ }
+// The step is to be looked for in the pool of this slot, and is not there. The last slot answers for slots that there are not.
+fn is_missing(step: Step, slot: usize, listed: bool) -> bool
+    ensures { λ r. ⌜ r ≡ (eqb (askedSlot step) slot && not (ltb (step .slot) slotCount && listed)) ⌝ }
 {
-    let at = step.slot as usize;
-    if at >= 8 {
-        return false;
-    }
-    let slot = slots[at];
-    let profile = slot.profile;
-    is_listed(profile, step.function, step.state)
+    let own = step.slot as usize;
+    (at_most(own, SLOTS - 1) == slot) & !((own < SLOTS) & listed)
 }
 
-// 11.
-fn step_check(slots: [Slot; 8], step: Step) -> u8
-    ensures { λ r. ⌜ r ≡ firstFailing (stepChecks slots step) ⌝ }
-{
-    if is_in_pool(slots, step) { 0 } else { 11 }
-}
-
-pub fn first_step_check(slots: [Slot; 8], steps: [Step; 64], count: usize) -> u8
-    ensures { λ r. ⌜ r ≡ firstFailing (flatMap (stepChecks slots) (take count steps)) ⌝ }
+// Some step is missing in the pool of this slot. By slot, not by step: a pool is handed over 8 times and not 64 times.
+fn some_missing(profile: Profile, slot: usize, steps: [Step; MOST_STEPS], count: usize) -> bool
+    ensures { λ r. ⌜ r ≡ some (isMissing profile slot) (take count steps) ⌝ }
 {
     let mut i: usize = 0;
-    while i < 64 {
+    while i < MOST_STEPS {
         if i >= count {
-            return 0;
+            return false;
         }
-        let number = step_check(slots, steps[i]);
-        if number != 0 {
-            return number;
+        let step = steps[i];
+        let at = step.function as usize;
+        let listed = is_listed(profile.trigger[at], profile.states[at], step.state);
+        if is_missing(step, slot, listed) {
+            return true;
         }
         i += 1;
     }
-    0
+    false
 }
 
-// 12; 0 also where the slot is not one of the sequence.
-fn ready_check(slot: Slot, client: Client) -> u8
-    ensures { λ r. ⌜ r ≡ firstFailing (readyChecks (slot, client)) ⌝ }
+// 8, 9 and 10 by slot, then 11. A slot is copied once: for its client's checks, and to look for its steps.
+pub fn first_check(slots: [Client; SLOTS], sequence: Sequence) -> u8
+    ensures { λ r. ⌜ r ≡ firstFailing (flatMap clientChecks (pairs slots (sequence .records)) ++ flatMap (stepChecks slots) (stepsOf sequence)) ⌝ }
 {
-    if client.used == 0 {
-        return 0;
+    let records = sequence.records;
+    let steps = sequence.steps;
+    let mut missing = false;
+    let mut i: usize = 0;
+    while i < SLOTS {
+        let client = slots[i];
+        let profile = client.profile;
+        let number = client_check(client, records[i]);
+        if number != DONE {
+            return number;
+        }
+        missing = missing | some_missing(profile, i, steps, sequence.count);
+        i += 1;
     }
-    if slot.report != READY {
-        return 12;
+    if missing {
+        return NOT_IN_POOL;
     }
-    0
+    DONE
 }
 
-pub fn first_ready_check(slots: [Slot; 8], clients: [Client; 8]) -> u8
-    ensures { λ r. ⌜ r ≡ firstFailing (flatMap readyChecks (pairs slots clients)) ⌝ }
+// 12, of the slots of the sequence.
+pub fn first_ready_check(slots: [Client; SLOTS], records: [ClientRecord; SLOTS]) -> u8
+    ensures { λ r. ⌜ r ≡ firstFailing (flatMap readyChecks (pairs slots records)) ⌝ }
 {
     let mut i: usize = 0;
-    while i < 8 {
-        let number = ready_check(slots[i], clients[i]);
-        if number != 0 {
-            return number;
+    while i < SLOTS {
+        if (records[i].used != 0) & (slots[i].report != READY) {
+            return NOT_READY;
         }
         i += 1;
     }
-    0
+    DONE
 }

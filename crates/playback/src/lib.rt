@@ -5,15 +5,21 @@ ghost use Prim.Native.Nat.{_≤_, _<_};
 ghost use lib.ListN.{length, drop};
 ghost use Rattle.playback.specs.State.{blankSent, blankPlayback};
 ghost use Rattle.playback.specs.Verification.{verifyOf};
-ghost use Rattle.playback.specs.Tick.{isLate, someLate, doesStop, isDue, doesLeave, nextTan, countedOf, leftOf, tickOf};
+ghost use Rattle.playback.specs.Tick.{isLate, someLate, doesStop, isDue, doesLeave, nextTan, countedPlayback, afterLeaving, tickOf};
 ghost use Rattle.playback.specs.Frames.{framesOf, waitingOf};
 ghost use Rattle.playback.specs.Answer.{isAllDone, withAnswer, answeredOf, hasFunction};
-ghost use Rattle.playback.specs.Promises.{Verifies, Agrees, Keeps, Framing};
+ghost use Rattle.playback.specs.Promises.{Verifies, Agrees, Changes, Framing};
 ghost use Rattle.playback.specs.Cases.{Cases};
 use arrays::more;
-use client::Slot;
+use client::Client;
+use client::SLOTS;
 use message::Reply;
-use message::fields::number_of;
+use message::fields::status_number;
+use octets::numbers::DONE;
+use octets::numbers::NO_MATCH;
+use octets::numbers::NO_STEP;
+use sequence::LAST_TICK;
+use sequence::MOST_STEPS;
 use sequence::Sequence;
 use sequence::Step;
 
@@ -21,7 +27,24 @@ mod answers;
 mod buffer;
 mod checks;
 
-// A step that has left: its TAN, its answer (0 none, 2 done; any other number is started), and the tick at which it first left.
+// The answer to a sent step. A number that is not here counts as started.
+pub const ANSWER_NONE: u8 = 0;
+
+pub const ANSWER_STARTED: u8 = 1;
+
+pub const ANSWER_DONE: u8 = 2;
+
+// What becomes of a playback at a tick or an answer.
+pub const GOES_ON: u8 = 0;
+
+pub const TO_READY: u8 = 1;
+
+pub const TO_ABORT: u8 = 2;
+
+// The ticks after which a sent step must have an answer.
+const ANSWER_TICKS: u64 = 16;
+
+// A step that has left: its TAN, its answer, and the tick at which it first left.
 #[repr(C)]
 pub struct Sent {
     pub tan: u8,
@@ -35,22 +58,22 @@ pub struct Playback {
     pub ticks: u32,
     pub distance: u32,
     pub sent: usize,
-    pub commands: [Sent; 64],
+    pub commands: [Sent; MOST_STEPS],
 }
 
-// ended is 1 where it aborts, else 0.
+// After a tick: what becomes of it, and the TAN of the last command.
 #[repr(C)]
 pub struct Ticked {
-    pub ended: u8,
+    pub end: u8,
     pub tan: u8,
     pub playback: Playback,
 }
 
-// number is 0 or 15; over: 0 it goes on, 1 all steps are done, 2 it aborts.
+// After an answer: whether it matched, and what becomes of it.
 #[repr(C)]
 pub struct Answered {
     pub number: u8,
-    pub over: u8,
+    pub end: u8,
     pub playback: Playback,
 }
 
@@ -60,10 +83,10 @@ pub fn blank_playback() -> Playback
 {
     let sent = Sent {
         tan: 0,
-        answer: 0,
+        answer: ANSWER_NONE,
         left: 0,
     };
-    let commands = [sent; 64];
+    let commands = [sent; MOST_STEPS];
     Playback {
         ticks: 0,
         distance: 0,
@@ -72,24 +95,19 @@ pub fn blank_playback() -> Playback
     }
 }
 
-// 0, or the number of the first check that does not hold: 7 to 12.
-pub fn verify(slots: [Slot; 8], sequence: Sequence) -> u8
+// Done, or the number of the first check that does not hold.
+pub fn verify(slots: [Client; SLOTS], sequence: Sequence) -> u8
     ensures { λ r. ⌜ r ≡ verifyOf slots sequence ⌝ }
 {
     if sequence.count == 0 {
-        return 7;
+        return NO_STEP;
     }
-    let clients = sequence.clients;
-    let steps = sequence.steps;
-    let client = checks::first_client_check(slots, clients);
-    if client != 0 {
-        return client;
+    let number = checks::first_check(slots, sequence);
+    if number != DONE {
+        return number;
     }
-    let step = checks::first_step_check(slots, steps, sequence.count);
-    if step != 0 {
-        return step;
-    }
-    checks::first_ready_check(slots, clients)
+    let records = sequence.records;
+    checks::first_ready_check(slots, records)
 }
 
 // ---- a tick
@@ -103,14 +121,14 @@ fn wide(x: u32) -> u64
 fn is_late(c: Sent, ticks: u32) -> bool
     ensures { λ r. ⌜ r ≡ isLate ticks c ⌝ }
 {
-    (c.answer == 0) & (wide(c.left) + 16 <= wide(ticks))
+    (c.answer == ANSWER_NONE) & (wide(c.left) + ANSWER_TICKS <= wide(ticks))
 }
 
-fn some_late(commands: [Sent; 64], sent: usize, ticks: u32) -> bool
+fn some_late(commands: [Sent; MOST_STEPS], sent: usize, ticks: u32) -> bool
     ensures { λ r. ⌜ r ≡ someLate ticks sent commands ⌝ }
 {
     let mut i: usize = 0;
-    while i < 64 {
+    while i < MOST_STEPS {
         if i >= sent {
             return false;
         }
@@ -140,7 +158,7 @@ fn next_tan(tan: u8) -> u8
 impl Playback {
     // The tick and its millimetres are counted.
     fn counted(mut self, mm: u32) -> Playback
-        ensures { λ r. ⌜ r ≡ countedOf self mm ⌝ }
+        ensures { λ r. ⌜ r ≡ countedPlayback self mm ⌝ }
     {
         self.ticks = more(self.ticks, 1);
         self.distance = more(self.distance, mm);
@@ -151,14 +169,14 @@ impl Playback {
         ensures { λ r. ⌜ r ≡ doesStop self ⌝ }
     {
         let commands = self.commands;
-        (self.ticks >= 36000) | some_late(commands, self.sent, self.ticks)
+        (self.ticks >= LAST_TICK) | some_late(commands, self.sent, self.ticks)
     }
 
-    fn does_leave(self, steps: [Step; 64], count: usize) -> bool
+    fn does_leave(self, steps: [Step; MOST_STEPS], count: usize) -> bool
         ensures { λ r. ⌜ r ≡ doesLeave self steps count ⌝ }
     {
         let next = self.sent;
-        if next >= 64 {
+        if next >= MOST_STEPS {
             return false;
         }
         (next < count) & is_due(steps[next], self.ticks, self.distance)
@@ -167,12 +185,12 @@ impl Playback {
     // The next step leaves with this TAN.
     fn leave(mut self, tan: u8) -> Playback
         requires { ⌜ self .sent < 64 ⌝ }
-        ensures { λ r. ⌜ r ≡ leftOf self tan ⌝ }
+        ensures { λ r. ⌜ r ≡ afterLeaving self tan ⌝ }
     {
         let next = self.sent;
         self.commands[next] = Sent {
             tan,
-            answer: 0,
+            answer: ANSWER_NONE,
             left: self.ticks,
         };
         self.sent = next + 1;
@@ -186,7 +204,7 @@ impl Playback {
         let playback = self.counted(mm);
         if playback.does_stop() {
             return Ticked {
-                ended: 1,
+                end: TO_ABORT,
                 tan,
                 playback,
             };
@@ -194,14 +212,14 @@ impl Playback {
         let steps = sequence.steps;
         if !playback.does_leave(steps, sequence.len()) {
             return Ticked {
-                ended: 0,
+                end: GOES_ON,
                 tan,
                 playback,
             };
         }
         let next = next_tan(tan);
         Ticked {
-            ended: 0,
+            end: GOES_ON,
             tan: next,
             playback: playback.leave(next),
         }
@@ -259,41 +277,41 @@ impl Playback {
             reply.function,
             reply.state,
         );
-        if i >= 64 {
+        if i >= MOST_STEPS {
             return Answered {
-                number: 15,
-                over: 0,
+                number: NO_MATCH,
+                end: GOES_ON,
                 playback: self,
             };
         }
         let c = self.commands[i];
-        if c.answer == 2 {
+        if c.answer == ANSWER_DONE {
             return Answered {
-                number: 0,
-                over: 0,
+                number: DONE,
+                end: GOES_ON,
                 playback: self,
             };
         }
         let given = reply.status;
-        let status = number_of(given);
+        let status = status_number(given);
         if answers::is_error(status, reply.error) {
             return Answered {
-                number: 0,
-                over: 2,
+                number: DONE,
+                end: TO_ABORT,
                 playback: self,
             };
         }
-        let playback = self.with_answer(i, answers::mark_of(status));
+        let playback = self.with_answer(i, answers::answer_from(status));
         if playback.is_all_done(sequence.len()) {
             return Answered {
-                number: 0,
-                over: 1,
+                number: DONE,
+                end: TO_READY,
                 playback,
             };
         }
         Answered {
-            number: 0,
-            over: 0,
+            number: DONE,
+            end: GOES_ON,
             playback,
         }
     }
@@ -313,7 +331,7 @@ pub fn has_function(sequence: Sequence, slot: u8, function: u8) -> bool
 pub fn promises()
     ensures { λ _. ⌜ Verifies ⌝ }
     ensures { λ _. ⌜ Agrees ⌝ }
-    ensures { λ _. ⌜ Keeps ⌝ }
+    ensures { λ _. ⌜ Changes ⌝ }
     ensures { λ _. ⌜ Framing ⌝ }
     ensures { λ _. ⌜ Cases ⌝ }
 {}

@@ -1,5 +1,4 @@
 -- How a playback ends: in an abort, or in ready with every step answered; and what sixteen ticks bring.
--- Assumes nothing.
 use mathlib.Core.Path.{_≡_, refl, sym, ap, _∙_, subst}
 use mathlib.Core.Bool.{Bool, true, false}
 use mathlib.Core.Logic.{_⊎_, inl, inr}
@@ -9,29 +8,27 @@ use native.Mathlib.Omega.{arith}
 use borrow.Author.Tests.{eqb-true, eqb-false}
 use lib.Dec.{eqb}
 use lib.ListN.{length}
-use Rattle.octets.specs.Pick.{pick}
 use Rattle.sequence.specs.Sequence.{lengthOf}
 use Rattle.sequence.specs.declared.Sequence.{Sequence}
 use Rattle.playback.specs.declared.Playback.{Playback}
 use Rattle.playback.specs.declared.Answered.{Answered}
 use Rattle.playback.specs.declared.Ticked.{Ticked}
 use Rattle.playback.specs.Tick as playback
-use Rattle.playback.specs.State.{blankPlayback}
+use Rattle.playback.specs.State.{goesOn, toReady, toAbort, blankPlayback}
 use Rattle.master.specs.declared.Master.{Master}
-use Rattle.master.specs.States.{ended}
 use Rattle.master.specs.States as states
 use Rattle.master.specs.Messages.{replyIn}
 use Rattle.master.specs.Playback.{answered}
-use Rattle.master.specs.Tick.{tickOf}
 use Rattle.replay.specs.Run.{State, going, done, aborted, afterTick, afterAnswer, stepOf, Going, Fair, ticksOf, HasAnswer}
 use Rattle.replay.specs.Run as replay
 use Rattle.replay.proofs.Theorems as theorems
 use Rattle.replay.proofs.Kept as kept
 use Rattle.replay.proofs.Why as why
 use Rattle.events.specs.Events.{Event, tick, answer, apply, runFrom}
+use Rattle.events.proofs.Choices.{chosen}
 use Rattle.plays.specs.Plays.{Started, Playing, Lasts, ticksIn, LeftAt, Replied, Aborts, Finishes}
 use Rattle.plays.proofs.Calls.{Stays, keeps, aborts, seen, Shows, goes, isDone, isAborted, View, aTick, anAnswer, another, view, one}
-use Rattle.plays.proofs.Runs.{seenAll, fair, same-ticks, run-append, seen-append, lasts-last, lasts-append, lasting, Begins, begins, run-is}
+use Rattle.plays.proofs.Runs.{seenAll, fair, same-ticks, seen-append, lasts-last, lasts-append, lasting, Begins, begins, run-is}
 use Rattle.plays.proofs.Theorems.{leaves-exactly, goes-shown, seen-tick, tick-accepted}
 use Rattle.plays.proofs.Replies.{replies, replied-by}
 
@@ -48,49 +45,43 @@ shows-aborted q n (isAborted a) = a
 
 -- a tick that ends it aborts it
 after-tick : (q : Sequence) (n : Master) (t : Ticked) → Shows q n (afterTick t) → ¬ Playing n → n .state ≡ states.abort
-unfolding afterTick pick
-after-tick q n t w np = go (eqb (t .ended) 0) w
-  where
-    go : (b : Bool) → Shows q n (pick b (going (t .playback) (t .tan)) aborted) → n .state ≡ states.abort
-    go true x = absurd (np (is-going q n _ _ x))
-    go false x = shows-aborted q n x
+unfolding afterTick
+after-tick q n t w np =
+    chosen (λ x. Shows q n x → n .state ≡ states.abort) (eqb (t .end) goesOn) (going (t .playback) (t .tan)) aborted
+    (λ x. absurd (np (is-going q n _ _ x))) (shows-aborted q n) w
 
 tick-aborts : (m : Master) (mm : ℕ) (out : List ℕ) → Playing m → ¬ Playing (apply m (tick mm out) .master) → apply m (tick mm out) .master .state ≡ states.abort
 tick-aborts m mm out h np =
     after-tick (m .sequence) (apply m (tick mm out) .master) (playback.tickOf (m .playback) (m .sequence) (m .tan) mm)
-    (subst (λ (x : replay.Event). Shows (m .sequence) (apply m (tick mm out) .master) (stepOf (m .sequence) (going (m .playback) (m .tan)) x))
+    (subst (λ (x : replay.PlaybackEvent). Shows (m .sequence) (apply m (tick mm out) .master) (stepOf (m .sequence) (going (m .playback) (m .tan)) x))
     (seen-tick m mm out (tick-accepted m mm out h np)) (one m (tick mm out) h))
     np
 
 -- an answer that takes it to ready is the last
 after-answer : (q : Sequence) (n : Master) (tan : ℕ) (a : Answered) → Shows q n (afterAnswer tan a) → n .state ≡ states.ready → afterAnswer tan a ≡ done (a .playback)
-unfolding afterAnswer pick
-after-answer q n tan a w r = go (eqb (a .over) 1) (eqb (a .over) 2) w
-  where
-    go : (b c : Bool) → Shows q n (pick b (done (a .playback)) (pick c aborted (going (a .playback) tan)))
-        → pick b (done (a .playback)) (pick c aborted (going (a .playback) tan)) ≡ done (a .playback)
-    go true c x = refl
-    go false true x = absurd (omega (arith, r, shows-aborted q n x))
-    go false false x = absurd (omega (arith, r, is-going q n _ _ x))
+unfolding afterAnswer
+after-answer q n tan a w r =
+    let P : State → Type 0 = λ x. Shows q n x → x ≡ done (a .playback) in
+    chosen P (eqb (a .end) toReady) (done (a .playback)) _ (λ _. refl)
+    (chosen P (eqb (a .end) toAbort) aborted (going (a .playback) tan) (λ x. absurd (omega (arith, r, shows-aborted q n x))) (λ x. absurd (omega (arith, r, is-going q n _ _ x)))) w
 
 done-is : (m : Master) (slot : ℕ) (msg out : List ℕ) → Playing m → apply m (answer slot msg out) .master .state ≡ states.ready
     → stepOf (m .sequence) (going (m .playback) (m .tan)) (seen m (answer slot msg out)) ≡ done (answered m slot msg .playback)
-unfolding pick
-done-is m slot msg out h r = go (eqb (apply m (answer slot msg out) .number) 0) (one m (answer slot msg out) h)
-  where
-    go : (b : Bool)
-        → Shows (m .sequence) (apply m (answer slot msg out) .master)
-        (stepOf (m .sequence) (going (m .playback) (m .tan)) (pick b (replay.answer slot (replyIn msg)) replay.message))
-        → stepOf (m .sequence) (going (m .playback) (m .tan)) (pick b (replay.answer slot (replyIn msg)) replay.message) ≡ done (answered m slot msg .playback)
-    go true x = after-answer (m .sequence) (apply m (answer slot msg out) .master) (m .tan) (answered m slot msg) x r
-    go false x = absurd (omega (arith, r, is-going (m .sequence) (apply m (answer slot msg out) .master) (m .playback) (m .tan) x))
+done-is m slot msg out h r =
+    let n = apply m (answer slot msg out) .master in
+    let s : replay.PlaybackEvent → State = stepOf (m .sequence) (going (m .playback) (m .tan)) in
+    chosen (λ x. Shows (m .sequence) n (s x) → s x ≡ done (answered m slot msg .playback))
+    (eqb (apply m (answer slot msg out) .number) 0) (replay.answer slot (replyIn msg)) replay.message
+    (λ x. after-answer (m .sequence) n (m .tan) (answered m slot msg) x r)
+    (λ x. absurd (omega (arith, r, is-going (m .sequence) n (m .playback) (m .tan) x)))
+    (one m (answer slot msg out) h)
 
 -- one call more
 pub run-next : (m : Master) → Begins m → (c : List Event) → Lasts m c → (e : Event)
-    → replay.run (m .sequence) (m .tan) (seenAll m (c ++ e ∷ []))
+    → replay.playRun (m .sequence) (m .tan) (seenAll m (c ++ e ∷ []))
     ≡ stepOf (runFrom m c .sequence) (going (runFrom m c .playback) (runFrom m c .tan)) (seen (runFrom m c) e)
 run-next m b c l e =
-    ap (λ (x : List replay.Event). replay.run (m .sequence) (m .tan) x) (seen-append c (e ∷ []) m)
+    ap (λ (x : List replay.PlaybackEvent). replay.playRun (m .sequence) (m .tan) x) (seen-append c (e ∷ []) m)
     ∙ kept.run-append (m .sequence) (seenAll m c) (seen (runFrom m c) e ∷ []) (going blankPlayback (m .tan))
     ∙ ap (λ (x : State). stepOf (m .sequence) x (seen (runFrom m c) e)) (run-is m b c l)
     ∙ ap (λ (x : Sequence). stepOf x (going (runFrom m c .playback) (runFrom m c .tan)) (seen (runFrom m c) e)) (sym (lasting c m l .1))
@@ -180,9 +171,9 @@ sixteen m s a b l i t h k = go (ends m s (a ++ b))
         let z = begins m s in
         inl
         (replies m s (a ++ b) x i
-        (heard-by m (a ++ b) i _ (sym (ap (λ (y : List replay.Event). replay.run (m .sequence) (m .tan) y) (seen-append a b m)) ∙ run-is m z (a ++ b) x)
+        (heard-by m (a ++ b) i _ (sym (ap (λ (y : List replay.PlaybackEvent). replay.playRun (m .sequence) (m .tan) y) (seen-append a b m)) ∙ run-is m z (a ++ b) x)
         (theorems.sixteen (m .sequence) (z .whole) (m .tan) (seenAll m a) (seenAll (runFrom m a) b) (subst Fair (seen-append a b m) (fair m (a ++ b))) i t
-        (subst (λ (y : State). replay.LeftAt y i t) (sym (run-is m z a l)) h)
+        (subst (λ (y : State). replay.HasLeftAt y i t) (sym (run-is m z a l)) h)
         (omega (arith, ap length (sym (ap ticksOf (seen-append a b m)) ∙ same-ticks m (a ++ b)))))))
     go (inr (inl f)) =
         let p = leaves-exactly m s a l i t .0 h .0 .none-later i (omega arith) in

@@ -1,12 +1,10 @@
 -- The lent bytes after a tick: the command of each step that waits, at its place, the same at every tick; and the tick at which a step first stands there.
--- Assumes nothing.
 use mathlib.Core.Path.{_≡_, refl, sym, ap, _∙_, subst}
-use mathlib.Core.Bool.{Bool, true, false}
 use mathlib.Core.List.{List, [], _∷_, _++_}
 use Prim.Native.Nat.{ℕ, zero, suc, _+_, _*_, _≤_, _<_}
 use native.Mathlib.Omega.{arith}
 use native.Mathlib.Decide.{decLe}
-use borrow.Author.Tests.{eqb-true, eq-eqb}
+use borrow.Author.Tests.{eqb-true}
 use lib.Dec.{eqb}
 use lib.ListN.{length, getD, take, drop, length-take}
 use Rattle.octets.specs.Pick.{pick}
@@ -19,20 +17,21 @@ use Rattle.playback.specs.Tick.{nextTan}
 use Rattle.playback.specs.Frames.{frameOf, framesOf, waitingOf}
 use Rattle.playback.proofs.Fill.{length-filled}
 use Rattle.master.specs.declared.Master.{Master}
-use Rattle.master.specs.declared.Outcome.{Outcome}
-use Rattle.master.specs.Numbers.{leaves}
 use Rattle.master.specs.Messages.{replyIn}
-use Rattle.master.specs.Tick.{tickRefusal, tickDone, ticked, framesIn, countIn, tickOf, tickOut}
+use Rattle.master.specs.Tick.{framesIn, countIn, tickCall}
 use Rattle.replay.specs.Run.{State, going, done, aborted, stepOf, Whole, sentAt}
 use Rattle.replay.specs.Run as replay
 use Rattle.replay.proofs.Follows.{Good}
-use Rattle.replay.proofs.Frames.{waiting-few}
+use Rattle.playback.proofs.Framing.{waiting-few}
 use Rattle.replay.proofs.Kept as kept
 use Rattle.replay.proofs.Theorems as theorems
-use Rattle.events.specs.Events.{Event, tick, answer, apply, left, runFrom}
-use Rattle.plays.specs.Plays.{Started, Playing, Lasts, LeftAt, commandOf, frameAt, Waits, FirstLeaves}
-use Rattle.plays.proofs.Calls.{number-is, Stays, keeps, aborts, seen, View, aTick, anAnswer, another, view, one}
-use Rattle.plays.proofs.Runs.{seenAll, accepted-mm, fair, same-ticks, run-append, lasts-head, lasts-last, lasts-right, lasts-append, shown, lasting, Begins, accepted-is, begins, run-is}
+use Rattle.events.specs.Events.{Event, tick, answer, apply, lentAfter, runFrom}
+use Rattle.events.specs.Causes.{Waits}
+use Rattle.events.proofs.Calls.{after-is, count-is as counted-is, written-is}
+use Rattle.events.proofs.Choices.{chosen, chosen-by}
+use Rattle.plays.specs.Plays.{Started, Playing, Lasts, LeftAt, commandOf, frameAt, FirstLeaves}
+use Rattle.plays.proofs.Calls.{Stays, keeps, aborts, seen, View, aTick, anAnswer, another, view, one}
+use Rattle.plays.proofs.Runs.{seenAll, accepted-mm, fair, same-ticks, run-append, lasts-head, lasts-last, lasts-right, lasts-append, shown, lasting, Begins, begins, run-is}
 use Rattle.plays.proofs.Theorems.{tans}
 use Rattle.plays.proofs.Replies.{good}
 
@@ -56,31 +55,20 @@ count-of : (n : Master) → Playing n → countIn n ≡ waitingOf (n .playback .
 unfolding countIn pick
 count-of n h = rw h
 
-ticked-is : (m : Master) (mm : ℕ) (out : List ℕ) → apply m (tick mm out) .number ≡ 0 → apply m (tick mm out) ≡ tickDone (ticked m mm)
-unfolding tickOf
-ticked-is m mm out z = accepted-is (tickRefusal m mm (length out)) m (tickDone (ticked m mm)) z
-
-written : (w : ℕ) (lent new : List ℕ) → eqb w 0 ≡ true → leaves w lent new ≡ new
-unfolding pick
-written w lent new e = rw e
-
 -- an accepted tick writes the frames of the master after it
 lent-is : (m : Master) (mm : ℕ) (out : List ℕ) → apply m (tick mm out) .number ≡ 0 → Playing (apply m (tick mm out) .master)
-    → left m (tick mm out) ≡ framesOf (apply m (tick mm out) .master .playback) (apply m (tick mm out) .master .sequence .steps) ++ drop 576 out
-unfolding tickOf tickOut
+    → lentAfter m (tick mm out) ≡ framesOf (apply m (tick mm out) .master .playback) (apply m (tick mm out) .master .sequence .steps) ++ drop 576 out
+unfolding tickCall
 lent-is m mm out z h =
-    let e = ap (λ (o : Outcome). o .master) (ticked-is m mm out z) in
-    written (tickRefusal m mm (length out)) out (framesIn (ticked m mm) ++ drop 576 out)
-    (sym (number-is (tickRefusal m mm (length out)) m (tickDone (ticked m mm)) refl) ∙ eq-eqb _ 0 z)
-    ∙ ap (λ (n : Master). framesIn n ++ drop 576 out) (sym e)
+    written-is m (tickCall m mm out) z
+    ∙ ap (λ (n : Master). framesIn n ++ drop 576 out) (sym (after-is m (tickCall m mm out) z))
     ∙ ap (λ (l : List ℕ). l ++ drop 576 out) (frames-of (apply m (tick mm out) .master) h)
 
 count-is : (m : Master) (mm : ℕ) (out : List ℕ) → apply m (tick mm out) .number ≡ 0 → Playing (apply m (tick mm out) .master)
     → apply m (tick mm out) .count ≡ waitingOf (apply m (tick mm out) .master .playback .sent) (apply m (tick mm out) .master .playback .commands)
-unfolding tickOf
+unfolding tickCall
 count-is m mm out z h =
-    let q = ticked-is m mm out z in
-    ap (λ (o : Outcome). o .count) q ∙ ap countIn (sym (ap (λ (o : Outcome). o .master) q)) ∙ count-of (apply m (tick mm out) .master) h
+    counted-is m (tickCall m mm out) z ∙ ap countIn (sym (after-is m (tickCall m mm out) z)) ∙ count-of (apply m (tick mm out) .master) h
 
 -- ---- the frame of a step that waits
 
@@ -123,7 +111,7 @@ lent-frame m s es l n e i w rest =
 pub repeats : (m : Master) → Started m → (es : List Event) (mm : ℕ) (out : List ℕ) → Lasts m (es ++ tick mm out ∷ [])
     → apply (runFrom m es) (tick mm out) .number ≡ 0
     → (i : ℕ) → Waits (apply (runFrom m es) (tick mm out) .master) i
-    → frameAt (waitingOf i (apply (runFrom m es) (tick mm out) .master .playback .commands)) (left (runFrom m es) (tick mm out)) ≡ commandOf m i
+    → frameAt (waitingOf i (apply (runFrom m es) (tick mm out) .master .playback .commands)) (lentAfter (runFrom m es) (tick mm out)) ≡ commandOf m i
 repeats m s es mm out l z i w =
     let n = apply (runFrom m es) (tick mm out) .master in
     ap (frameAt (waitingOf i (n .playback .commands))) (lent-is (runFrom m es) mm out z (lasts-right es (tick mm out ∷ []) m l .1))
@@ -143,12 +131,12 @@ whose m s es l n e k h =
 pub no-other-frame : (m : Master) → Started m → (es : List Event) (mm : ℕ) (out : List ℕ) → Lasts m (es ++ tick mm out ∷ [])
     → apply (runFrom m es) (tick mm out) .number ≡ 0
     → (k : ℕ) → k < apply (runFrom m es) (tick mm out) .count
-    → (i : ℕ) × (Waits (apply (runFrom m es) (tick mm out) .master) i × (frameAt k (left (runFrom m es) (tick mm out)) ≡ commandOf m i))
+    → (i : ℕ) × (Waits (apply (runFrom m es) (tick mm out) .master) i × (frameAt k (lentAfter (runFrom m es) (tick mm out)) ≡ commandOf m i))
 no-other-frame m s es mm out l z k h =
     let n = apply (runFrom m es) (tick mm out) .master in
     let c = count-is (runFrom m es) mm out z (lasts-right es (tick mm out ∷ []) m l .1) in
     let o = whose m s (es ++ tick mm out ∷ []) l n (run-append es (tick mm out ∷ []) m) k (omega (arith, h, c)) in
-    (o .0, (o .1 .0, ap (λ (x : ℕ). frameAt x (left (runFrom m es) (tick mm out))) (sym (o .1 .1)) ∙ repeats m s es mm out l z (o .0) (o .1 .0)))
+    (o .0, (o .1 .0, ap (λ (x : ℕ). frameAt x (lentAfter (runFrom m es) (tick mm out))) (sym (o .1 .1)) ∙ repeats m s es mm out l z (o .0) (o .1 .0)))
 
 -- ---- the tick at which a step leaves
 
@@ -200,39 +188,32 @@ module _ (m : Master) (h : Playing m) (i : ℕ) where
       → stepOf (m .sequence) (going (m .playback) (m .tan)) (seen m e) ≡ going (apply m e .master .playback) (apply m e .master .tan)
   next e k = shown (m .sequence) (apply m e .master) _ (one m e h) k .1
 
+  abbrev Goes : Event → replay.PlaybackEvent → Type 0
+  Goes e x = stepOf (m .sequence) (going (m .playback) (m .tan)) x ≡ going (apply m e .master .playback) (apply m e .master .tan)
+
   tick-leaves : (mm : ℕ) (out : List ℕ) → Good (m .playback) → Whole (m .sequence) → m .playback .sent ≤ i → i < apply m (tick mm out) .master .playback .sent
       → Playing (apply m (tick mm out) .master) → Left m mm out i
-  unfolding pick
-  tick-leaves mm out g w below above k = go (eqb (apply m (tick mm out) .number) 0) refl (next (tick mm out) k)
-    where
-      go : (b : Bool) → eqb (apply m (tick mm out) .number) 0 ≡ b
-          → stepOf (m .sequence) (going (m .playback) (m .tan)) (pick b (replay.tick mm) replay.message)
-          ≡ going (apply m (tick mm out) .master .playback) (apply m (tick mm out) .master .tan)
-          → Left m mm out i
-      go true q e =
-          let x =
-          kept.leaving-tick (m .sequence) w i (m .playback) g mm (m .tan) (accepted-mm m mm out q) below
-          (subst (λ (s : State). i < kept.sentOf s) (sym e) above) in
-          let p : apply m (tick mm out) .master .playback ≡ x .after = ap playOf (sym e ∙ x .now) in
-          record {
-            accepted = eqb-true _ 0 q;
-            none = x .none;
-            one = omega (arith, ap (λ (y : Playback). y .sent) p, x .one);
-            cell = ap (λ (y : Playback). sentAt y i) p ∙ x .cell;
-          }
-      go false q e = absurd (omega (arith, ap kept.sentOf e))
+  tick-leaves mm out g w below above k =
+      chosen-by (λ x. Goes (tick mm out) x → Left m mm out i) (eqb (apply m (tick mm out) .number) 0) (replay.tick mm) replay.message
+      (λ q e.
+      let x =
+      kept.leaving-tick (m .sequence) w i (m .playback) g mm (m .tan) (accepted-mm m mm out q) below
+      (subst (λ (s : State). i < kept.sentOf s) (sym e) above) in
+      let p : apply m (tick mm out) .master .playback ≡ x .after = ap playOf (sym e ∙ x .now) in
+      record {
+        accepted = eqb-true _ 0 q;
+        none = x .none;
+        one = omega (arith, ap (λ (y : Playback). y .sent) p, x .one);
+        cell = ap (λ (y : Playback). sentAt y i) p ∙ x .cell;
+      })
+      (λ _ e. absurd (omega (arith, ap kept.sentOf e))) (next (tick mm out) k)
 
   answer-leaves : (slot : ℕ) (msg out : List ℕ) → Whole (m .sequence) → m .playback .sent ≤ i → i < apply m (answer slot msg out) .master .playback .sent
       → Playing (apply m (answer slot msg out) .master) → ⊥
-  unfolding pick
-  answer-leaves slot msg out w below above k = go (eqb (apply m (answer slot msg out) .number) 0) (next (answer slot msg out) k)
-    where
-      go : (b : Bool)
-          → stepOf (m .sequence) (going (m .playback) (m .tan)) (pick b (replay.answer slot (replyIn msg)) replay.message)
-          ≡ going (apply m (answer slot msg out) .master .playback) (apply m (answer slot msg out) .master .tan)
-          → ⊥
-      go true e = omega (arith, ap kept.sentOf e, kept.answer-sent (m .sequence) w i (m .playback) (m .tan) slot (replyIn msg))
-      go false e = omega (arith, ap kept.sentOf e)
+  answer-leaves slot msg out w below above k =
+      chosen (λ x. Goes (answer slot msg out) x → ⊥) (eqb (apply m (answer slot msg out) .number) 0) (replay.answer slot (replyIn msg)) replay.message
+      (λ e. omega (arith, ap kept.sentOf e, kept.answer-sent (m .sequence) w i (m .playback) (m .tan) slot (replyIn msg)))
+      (λ e. omega (arith, ap kept.sentOf e)) (next (answer slot msg out) k)
 
 -- the tick of a step stays beside it
 still-left : (es : List Event) (n : Master) → Lasts n es → (i : ℕ) → i < n .playback .sent

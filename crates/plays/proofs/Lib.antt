@@ -1,4 +1,3 @@
-pub mod Whole
 pub mod Calls
 pub mod Runs
 pub mod Causes

@@ -1,7 +1,6 @@
 -- A step of a playback has an answer only where its own client gave it, by an accepted E.7 with its TAN, function and state.
--- Assumes nothing.
 use mathlib.Core.Path.{_≡_, refl, sym, ap, _∙_, subst}
-use mathlib.Core.Bool.{Bool, true, false}
+use mathlib.Core.Bool.{true}
 use mathlib.Core.Logic.{_⊎_, inl, inr}
 use mathlib.Core.List.{List, [], _∷_, _++_, append-nil, append-assoc}
 use Prim.Native.Nat.{ℕ, _+_}
@@ -9,7 +8,6 @@ use native.Mathlib.Omega.{arith}
 use borrow.Author.Tests.{eqb-true}
 use lib.Dec.{eqb}
 use lib.ListN.{getD}
-use Rattle.octets.specs.Pick.{pick}
 use Rattle.sequence.specs.Sequence.{blankStep}
 use Rattle.sequence.specs.declared.Sequence.{Sequence}
 use Rattle.playback.specs.declared.Playback.{Playback}
@@ -23,8 +21,9 @@ use Rattle.replay.proofs.Follows.{Good, Sound}
 use Rattle.replay.proofs.Answers.{Matches, by-answer, by-tick}
 use Rattle.replay.proofs.Theorems as theorems
 use Rattle.events.specs.Events.{Event, tick, answer, apply, runFrom}
+use Rattle.events.proofs.Choices.{chosen, chosen-by}
 use Rattle.plays.specs.Plays.{Started, Lasts, Replied}
-use Rattle.plays.proofs.Calls.{heeded, seen, View, aTick, anAnswer, another, view, one}
+use Rattle.plays.proofs.Calls.{seen, View, aTick, anAnswer, another, view, one}
 use Rattle.plays.proofs.Runs.{seenAll, fair, run-append, lasts-head, lasts-left, lasts-right, shown, lasting, Begins, begins, run-is}
 use Rattle.plays.proofs.Theorems.{tans}
 
@@ -37,48 +36,28 @@ record Answers (m : Master) (e : Event) (i : ℕ) : Type 0 where
   accepted : apply m (answer slot msg out) .number ≡ 0
   matches : Matches (m .sequence) (m .playback) slot (replyIn msg) i
 
-quiet : (q : Sequence) (p : Playback) (x state i : ℕ) → replay.AnsweredAt (stepOf q (going p x) (heeded state)) i → HasAnswer p i
-unfolding pick
-quiet q p x state i h = go (eqb state states.playback) h
-  where
-    go : (b : Bool) → replay.AnsweredAt (stepOf q (going p x) (pick b replay.message replay.ends)) i → HasAnswer p i
-    go true y = y
-    go false y = absurd y
+-- after this event of a playback step i is answered
+abbrev Marks : Master → ℕ → replay.PlaybackEvent → Type 0
+Marks m i x = replay.AnsweredAt (stepOf (m .sequence) (going (m .playback) (m .tan)) x) i
 
-tick-quiet : (m : Master) → Good (m .playback) → (mm : ℕ) (out : List ℕ) (i : ℕ)
-    → replay.AnsweredAt (stepOf (m .sequence) (going (m .playback) (m .tan)) (seen m (tick mm out))) i → HasAnswer (m .playback) i
-unfolding pick
-tick-quiet m g mm out i h = go (eqb (apply m (tick mm out) .number) 0) h
-  where
-    go : (b : Bool) → replay.AnsweredAt (stepOf (m .sequence) (going (m .playback) (m .tan)) (pick b (replay.tick mm) replay.message)) i → HasAnswer (m .playback) i
-    go true y = by-tick (m .sequence) (m .playback) g mm (m .tan) i y
-    go false y = y
-
-answer-marks : (m : Master) (slot : ℕ) (msg out : List ℕ) (i : ℕ)
-    → replay.AnsweredAt (stepOf (m .sequence) (going (m .playback) (m .tan)) (seen m (answer slot msg out))) i
-    → HasAnswer (m .playback) i ⊎ Answers m (answer slot msg out) i
-unfolding pick
-answer-marks m slot msg out i h = go (eqb (apply m (answer slot msg out) .number) 0) refl h
+one-answer : (m : Master) (e : Event) (i : ℕ) → Good (m .playback) → View m e → Marks m i (seen m e) → HasAnswer (m .playback) i ⊎ Answers m e i
+one-answer m e i g (aTick mm out) h =
+    inl
+    (chosen (λ x. Marks m i x → HasAnswer (m .playback) i) (eqb (apply m (tick mm out) .number) 0) (replay.tick mm) replay.message
+    (by-tick (m .sequence) (m .playback) g mm (m .tan) i) (λ y. y) h)
+one-answer m e i g (anAnswer slot msg out) h =
+    chosen-by (λ x. Marks m i x → HasAnswer (m .playback) i ⊎ Answers m (answer slot msg out) i)
+    (eqb (apply m (answer slot msg out) .number) 0) (replay.answer slot (replyIn msg)) replay.message
+    (λ q y. match q (by-answer (m .sequence) (m .playback) slot (replyIn msg) (m .tan) i y)) (λ _ y. inl y) h
   where
     match : eqb (apply m (answer slot msg out) .number) 0 ≡ true → HasAnswer (m .playback) i ⊎ Matches (m .sequence) (m .playback) slot (replyIn msg) i
         → HasAnswer (m .playback) i ⊎ Answers m (answer slot msg out) i
     match q (inl y) = inl y
     match q (inr y) = inr (record { slot = slot; msg = msg; out = out; is = refl; accepted = eqb-true _ 0 q; matches = y })
-
-    go : (b : Bool) → eqb (apply m (answer slot msg out) .number) 0 ≡ b
-        → replay.AnsweredAt (stepOf (m .sequence) (going (m .playback) (m .tan)) (pick b (replay.answer slot (replyIn msg)) replay.message)) i
-        → HasAnswer (m .playback) i ⊎ Answers m (answer slot msg out) i
-    go true q y = match q (by-answer (m .sequence) (m .playback) slot (replyIn msg) (m .tan) i y)
-    go false q y = inl y
-
-one-answer : (m : Master) (e : Event) (i : ℕ) → Good (m .playback) → View m e
-    → replay.AnsweredAt (stepOf (m .sequence) (going (m .playback) (m .tan)) (seen m e)) i → HasAnswer (m .playback) i ⊎ Answers m e i
-one-answer m e i g (aTick mm out) h = inl (tick-quiet m g mm out i h)
-one-answer m e i g (anAnswer slot msg out) h = answer-marks m slot msg out i h
 one-answer m e i g (another s q t) h =
     inl
-    (quiet (m .sequence) (m .playback) (m .tan) (apply m e .master .state) i
-    (subst (λ (x : replay.Event). replay.AnsweredAt (stepOf (m .sequence) (going (m .playback) (m .tan)) x) i) q h))
+    (chosen (λ x. Marks m i x → HasAnswer (m .playback) i) (eqb (apply m e .master .state) states.playback) replay.message replay.ends
+    (λ y. y) (λ y. absurd y) (subst (Marks m i) q h))
 
 pub good : (m : Master) → Begins m → (es : List Event) → Lasts m es → Good (runFrom m es .playback)
 good m b es l = subst Sound (run-is m b es l) (theorems.sound (m .sequence) (b .whole) (m .tan) (seenAll m es) (fair m es))

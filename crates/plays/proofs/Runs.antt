@@ -1,109 +1,62 @@
 -- Calls through which a playback lasts are a run of crate `replay`, with the same ticks.
--- Assumes nothing.
 use mathlib.Core.Path.{_≡_, refl, sym, ap, _∙_, subst}
-use mathlib.Core.Bool.{Bool, true, false, not, true≢false}
+use mathlib.Core.Bool.{true}
 use mathlib.Core.List.{List, [], _∷_, _++_}
 use Prim.Native.Nat.{ℕ, _≤_}
 use native.Mathlib.Omega.{arith}
-use borrow.Author.Tests.{ltb-false, eq-eqb}
-use lib.Dec.{eqb, ltb}
-use lib.ListN.{length}
+use borrow.Author.Tests.{ltb-false, eqb-true}
+use lib.Dec.{eqb}
 use Rattle.octets.specs.Pick.{pick}
 use Rattle.sequence.specs.declared.Sequence.{Sequence}
 use Rattle.playback.specs.declared.Playback.{Playback}
 use Rattle.playback.specs.State.{blankPlayback}
-use Rattle.playback.specs.Verification.{verifyOf}
 use Rattle.master.specs.declared.Master.{Master}
-use Rattle.master.specs.declared.Outcome.{Outcome}
-use Rattle.master.specs.Numbers.{gives, unless}
-use Rattle.master.specs.States.{isInactive, isReady, withState, withPlayback}
+use Rattle.master.specs.States.{withState, withPlayback}
 use Rattle.master.specs.States as states
 use Rattle.master.specs.Messages.{replyIn}
-use Rattle.master.specs.Playback.{startOf}
-use Rattle.master.specs.Tick.{tickRefusal, tickDone, ticked, tickOf}
+use Rattle.master.specs.Playback.{startCall}
+use Rattle.master.specs.Tick.{tickCall}
+use Rattle.master.proofs.Calls.{passed}
 use Rattle.replay.specs.Run.{State, going, stepOf, Whole, Fair, ticksOf}
 use Rattle.replay.specs.Run as replay
-use Rattle.events.specs.Events.{Event, tick, answer, apply, runFrom}
+use Rattle.events.specs.Events.{Event, start, tick, answer, apply, runFrom, Given}
 use Rattle.plays.specs.Plays.{Started, Playing, Lasts, tickIn, ticksIn}
-use Rattle.plays.proofs.Whole.{given-whole}
-use Rattle.plays.proofs.Calls.{number-is, passes-1, heeded, seen, Shows, goes, isDone, isAborted, View, aTick, anAnswer, another, view, one}
+use Rattle.events.proofs.Calls.{number-is, after-is}
+use Rattle.events.proofs.Choices.{chosen, chosen-by, either}
+use Rattle.events.proofs.Regular.{length-steps, given-regular}
+use Rattle.plays.proofs.Calls.{seen, Shows, goes, isDone, isAborted, View, aTick, anAnswer, another, view, one}
 
 -- the calls, as crate `replay` has them
-abbrev pub seenAll : Master → List Event → List replay.Event
+abbrev pub seenAll : Master → List Event → List replay.PlaybackEvent
 seenAll m [] = []
 seenAll m (e ∷ es) = seen m e ∷ seenAll (apply m e .master) es
 
 -- ---- accepted ticks have at most 65,535 mm
 
-passes-mm : (m : Master) (mm : ℕ) → eqb (pick (ltb 65535 mm) 4 (pick (isInactive m) 2 0)) 0 ≡ true → mm ≤ 65535
-unfolding pick
-passes-mm m mm e = go (ltb 65535 mm) refl e
-  where
-    go : (b : Bool) → ltb 65535 mm ≡ b → eqb (pick b 4 (pick (isInactive m) 2 0)) 0 ≡ true → mm ≤ 65535
-    go true q f = absurd (true≢false (sym f))
-    go false q f = ltb-false 65535 mm q
-
 pub accepted-mm : (m : Master) (mm : ℕ) (out : List ℕ) → eqb (apply m (tick mm out) .number) 0 ≡ true → mm ≤ 65535
-unfolding tickOf
-accepted-mm m mm out e = passes-mm m mm (passes-1 _ _ (sym (number-is (tickRefusal m mm (length out)) m (tickDone (ticked m mm)) refl) ∙ e))
+unfolding tickCall
+accepted-mm m mm out e = ltb-false 65535 mm (passed _ _ _ _ _ (sym (number-is m (tickCall m mm out)) ∙ eqb-true _ 0 e) .right)
 
 -- ---- the events are fair, with the same ticks
 
-fair-heeded : (state : ℕ) (es : List replay.Event) → Fair es → Fair (heeded state ∷ es)
-unfolding pick
-fair-heeded state es f = go (eqb state states.playback)
-  where
-    go : (b : Bool) → Fair (pick b replay.message replay.ends ∷ es)
-    go true = f
-    go false = f
-
-fair-tick : (m : Master) (mm : ℕ) (out : List ℕ) (es : List replay.Event) → Fair es → Fair (seen m (tick mm out) ∷ es)
-unfolding pick
-fair-tick m mm out es f = go (eqb (apply m (tick mm out) .number) 0) refl
-  where
-    go : (b : Bool) → eqb (apply m (tick mm out) .number) 0 ≡ b → Fair (pick b (replay.tick mm) replay.message ∷ es)
-    go true q = (accepted-mm m mm out q, f)
-    go false q = f
-
-fair-answer : (m : Master) (slot : ℕ) (msg out : List ℕ) (es : List replay.Event) → Fair es → Fair (seen m (answer slot msg out) ∷ es)
-unfolding pick
-fair-answer m slot msg out es f = go (eqb (apply m (answer slot msg out) .number) 0)
-  where
-    go : (b : Bool) → Fair (pick b (replay.answer slot (replyIn msg)) replay.message ∷ es)
-    go true = f
-    go false = f
-
-fair-one : (m : Master) (e : Event) (es : List replay.Event) → Fair es → View m e → Fair (seen m e ∷ es)
-fair-one m e es f (aTick mm out) = fair-tick m mm out es f
-fair-one m e es f (anAnswer slot msg out) = fair-answer m slot msg out es f
-fair-one m e es f (another s q t) = subst (λ (x : replay.Event). Fair (x ∷ es)) (sym q) (fair-heeded (apply m e .master .state) es f)
+fair-one : (m : Master) (e : Event) (es : List replay.PlaybackEvent) → Fair es → View m e → Fair (seen m e ∷ es)
+fair-one m e es f (aTick mm out) =
+    chosen-by (λ x. Fair (x ∷ es)) (eqb (apply m (tick mm out) .number) 0) (replay.tick mm) replay.message (λ q. (accepted-mm m mm out q, f)) (λ _. f)
+fair-one m e es f (anAnswer slot msg out) =
+    chosen (λ x. Fair (x ∷ es)) (eqb (apply m (answer slot msg out) .number) 0) (replay.answer slot (replyIn msg)) replay.message f f
+fair-one m e es f (another s q t) =
+    subst (λ (x : replay.PlaybackEvent). Fair (x ∷ es)) (sym q)
+    (chosen (λ x. Fair (x ∷ es)) (eqb (apply m e .master .state) states.playback) replay.message replay.ends f f)
 
 pub fair : (m : Master) (es : List Event) → Fair (seenAll m es)
 fair m [] = tt
 fair m (e ∷ es) = fair-one m e (seenAll (apply m e .master) es) (fair (apply m e .master) es) (view m e)
 
-ticks-heeded : (state : ℕ) (es : List replay.Event) → ticksOf (heeded state ∷ es) ≡ ticksOf es
+ticks-one : (m : Master) (e : Event) (es : List replay.PlaybackEvent) → View m e → ticksOf (seen m e ∷ es) ≡ tickIn m e ++ ticksOf es
 unfolding pick
-ticks-heeded state es = go (eqb state states.playback)
-  where
-    go : (b : Bool) → ticksOf (pick b replay.message replay.ends ∷ es) ≡ ticksOf es
-    go true = refl
-    go false = refl
-
-ticks-one : (m : Master) (e : Event) (es : List replay.Event) → View m e → ticksOf (seen m e ∷ es) ≡ tickIn m e ++ ticksOf es
-unfolding pick
-ticks-one m e es (aTick mm out) = go (eqb (apply m (tick mm out) .number) 0)
-  where
-    go : (b : Bool) → ticksOf (pick b (replay.tick mm) replay.message ∷ es) ≡ pick b (mm ∷ []) [] ++ ticksOf es
-    go true = refl
-    go false = refl
-ticks-one m e es (anAnswer slot msg out) = go (eqb (apply m (answer slot msg out) .number) 0)
-  where
-    go : (b : Bool) → ticksOf (pick b (replay.answer slot (replyIn msg)) replay.message ∷ es) ≡ ticksOf es
-    go true = refl
-    go false = refl
-ticks-one m e es (another s q t) =
-    ap (λ (x : replay.Event). ticksOf (x ∷ es)) q ∙ ticks-heeded (apply m e .master .state) es ∙ ap (λ (l : List ℕ). l ++ ticksOf es) (sym t)
+ticks-one m e es (aTick mm out) = either (eqb (apply m (tick mm out) .number) 0) (λ b. rw b) (λ b. rw b)
+ticks-one m e es (anAnswer slot msg out) = either (eqb (apply m (answer slot msg out) .number) 0) (λ b. rw b) (λ b. rw b)
+ticks-one m e es (another s q t) = either (eqb (apply m e .master .state) states.playback) (λ b. rw (q, t, b)) (λ b. rw (q, t, b))
 
 pub same-ticks : (m : Master) (es : List Event) → ticksOf (seenAll m es) ≡ ticksIn m es
 same-ticks m [] = refl
@@ -118,7 +71,7 @@ run-append (e ∷ a) b m = run-append a b (apply m e .master)
 
 pub seen-append : (a b : List Event) (m : Master) → seenAll m (a ++ b) ≡ seenAll m a ++ seenAll (runFrom m a) b
 seen-append [] b m = refl
-seen-append (e ∷ a) b m = ap (λ (l : List replay.Event). seen m e ∷ l) (seen-append a b (apply m e .master))
+seen-append (e ∷ a) b m = ap (λ (l : List replay.PlaybackEvent). seen m e ∷ l) (seen-append a b (apply m e .master))
 
 pub lasts-head : (m : Master) (es : List Event) → Lasts m es → Playing m
 lasts-head m [] h = h
@@ -142,8 +95,8 @@ lasts-append (e ∷ a) b m h k = (h .0, lasts-append a b (apply m e .master) (h 
 
 -- ---- a playback that lasts is a run
 
-same-run : (q r : Sequence) (p s : Playback) (x y : ℕ) (es : List replay.Event) → r ≡ q → s ≡ p → y ≡ x
-    → replay.runFrom q (going p x) es ≡ replay.runFrom r (going s y) es
+same-run : (q r : Sequence) (p s : Playback) (x y : ℕ) (es : List replay.PlaybackEvent) → r ≡ q → s ≡ p → y ≡ x
+    → replay.playRunFrom q (going p x) es ≡ replay.playRunFrom r (going s y) es
 same-run q r p s x y es a b c = rw (a, b, c)
 
 -- a master that plays shows its own playback
@@ -153,14 +106,14 @@ shown q n s (isDone p a) h = absurd (omega (arith, a, h))
 shown q n s (isAborted a) h = absurd (omega (arith, a, h))
 
 pub lasting : (es : List Event) (m : Master) → Lasts m es
-    → (replay.runFrom (m .sequence) (going (m .playback) (m .tan)) (seenAll m es) ≡ going (runFrom m es .playback) (runFrom m es .tan))
+    → (replay.playRunFrom (m .sequence) (going (m .playback) (m .tan)) (seenAll m es) ≡ going (runFrom m es .playback) (runFrom m es .tan))
     × (runFrom m es .sequence ≡ m .sequence)
 lasting [] m h = (refl, refl)
 lasting (e ∷ es) m h =
     let n = apply m e .master in
     let w = shown (m .sequence) n (stepOf (m .sequence) (going (m .playback) (m .tan)) (seen m e)) (one m e (h .0)) (lasts-head n es (h .1)) in
     let r = lasting es n (h .1) in (
-      ap (λ (s : State). replay.runFrom (m .sequence) s (seenAll n es)) (w .1)
+      ap (λ (s : State). replay.playRunFrom (m .sequence) s (seenAll n es)) (w .1)
           ∙ same-run (m .sequence) (n .sequence) (n .playback) (n .playback) (n .tan) (n .tan) (seenAll n es) (w .0) refl refl
           ∙ r .0,
       r .1 ∙ w .0,
@@ -168,25 +121,17 @@ lasting (e ∷ es) m h =
 
 -- ---- from an accepted start
 
+pub given-whole : (m : Master) → Given m → Whole (m .sequence)
+given-whole m g = length-steps (m .sequence) (given-regular m g .sequence)
+
 pub record Begins (m : Master) : Type 0 where
   pub plays : Playing m
   pub blank : m .playback ≡ blankPlayback
   pub whole : Whole (m .sequence)
 
--- a call that gives 0 was not refused
-pub accepted-is : (why : ℕ) (m : Master) (d : Outcome) → unless why m d .number ≡ 0 → unless why m d ≡ d
-unfolding pick gives
-accepted-is why m d z = go (eqb why 0) refl z
-  where
-    go : (b : Bool) → eqb why 0 ≡ b → pick (not b) (gives why m) d .number ≡ 0 → pick (not b) (gives why m) d ≡ d
-    go true q y = refl
-    go false q y = absurd (true≢false (sym (eq-eqb why 0 y) ∙ q))
-
-begun : (b : Master) → startOf b .number ≡ 0 → startOf b .master ≡ withState (withPlayback b (b .tan) blankPlayback) states.playback
-unfolding startOf gives
-begun b z =
-    ap (λ (o : Outcome). o .master)
-    (accepted-is (pick (isReady b) (verifyOf (b .slots) (b .sequence)) 2) b (gives 0 (withState (withPlayback b (b .tan) blankPlayback) states.playback)) z)
+begun : (b : Master) → apply b start .number ≡ 0 → apply b start .master ≡ withState (withPlayback b (b .tan) blankPlayback) states.playback
+unfolding startCall
+begun b z = after-is b (startCall b) z
 
 pub begins : (m : Master) → Started m → Begins m
 begins m s =
@@ -194,6 +139,6 @@ begins m s =
     (record { plays = refl; blank = refl; whole = given-whole (s .before) (s .given) })
 
 pub run-is : (m : Master) → Begins m → (es : List Event) → Lasts m es
-    → replay.run (m .sequence) (m .tan) (seenAll m es) ≡ going (runFrom m es .playback) (runFrom m es .tan)
+    → replay.playRun (m .sequence) (m .tan) (seenAll m es) ≡ going (runFrom m es .playback) (runFrom m es .tan)
 run-is m b es h =
-    ap (λ (p : Playback). replay.runFrom (m .sequence) (going p (m .tan)) (seenAll m es)) (sym (b .blank)) ∙ lasting es m h .0
+    ap (λ (p : Playback). replay.playRunFrom (m .sequence) (going p (m .tan)) (seenAll m es)) (sym (b .blank)) ∙ lasting es m h .0

@@ -1,26 +1,25 @@
 -- When the steps of a playback of the master leave, and when it ends: carried over from crate `replay` by `run-is`.
--- Assumes nothing.
-use mathlib.Core.Path.{_≡_, refl, sym, ap, _∙_, subst}
-use mathlib.Core.Bool.{Bool, true, false, not}
+use mathlib.Core.Path.{_≡_, sym, ap, subst}
+use mathlib.Core.Bool.{true}
 use mathlib.Core.Logic.{_↔_, _⊎_, inl, inr}
 use mathlib.Core.List.{List}
 use Prim.Native.Nat.{ℕ, suc, _≤_, _<_}
 use native.Mathlib.Omega.{arith}
+use borrow.Author.Tests.{eqb-false}
 use lib.Dec.{eqb}
 use lib.ListN.{length}
 use Rattle.octets.specs.Pick.{pick}
-use Rattle.message.specs.Fields.{numberOf}
+use Rattle.message.specs.Fields.{statusNumber}
 use Rattle.sequence.specs.Sequence.{lengthOf}
 use Rattle.sequence.specs.declared.Sequence.{Sequence}
 use Rattle.playback.specs.Answer.{isError, isAllDone}
 use Rattle.playback.specs.declared.Answered.{Answered}
-use Rattle.playback.specs.State.{blankPlayback}
+use Rattle.playback.specs.State.{goesOn, blankPlayback}
 use Rattle.master.specs.declared.Master.{Master}
-use Rattle.master.specs.declared.Outcome.{Outcome}
-use Rattle.master.specs.Numbers.{gives, unless}
+use Rattle.master.specs.Call.{Call, outcomeOf}
 use Rattle.master.specs.Messages.{replyIn}
-use Rattle.master.specs.Playback.{answered, replied, answerRefusal, answerOf}
-use Rattle.master.specs.Tick.{tickRefusal, tickDone, ticked, tickOf}
+use Rattle.master.specs.Playback.{answered, replied, answerCall}
+use Rattle.master.specs.Tick.{tickCall}
 use Rattle.replay.specs.Run.{State, Going, ticksOf, sentAt, DueAt, Latest, raised}
 use Rattle.replay.specs.Run as replay
 use Rattle.replay.proofs.Answers.{why-over}
@@ -28,8 +27,11 @@ use Rattle.replay.proofs.Theorems as theorems
 use Rattle.replay.proofs.Tans.{raised-tans}
 use Rattle.replay.proofs.Why as why
 use Rattle.events.specs.Events.{Event, tick, answer, apply, runFrom}
-use Rattle.plays.specs.Plays.{Started, Playing, Lasts, ticksIn, LeftAt, Cause, isLast, answersError}
-use Rattle.plays.proofs.Calls.{number-is, Stays, keeps, aborts, seen, Shows, goes, isDone, isAborted, View, aTick, anAnswer, another, view, one}
+use Rattle.events.specs.Causes.{Cause, isLast, answersError}
+use Rattle.events.proofs.Calls.{same-master, either-way}
+use Rattle.events.proofs.Choices.{either}
+use Rattle.plays.specs.Plays.{Started, Playing, Lasts, ticksIn, LeftAt}
+use Rattle.plays.proofs.Calls.{Stays, keeps, aborts, seen, Shows, goes, isDone, isAborted, View, aTick, anAnswer, another, view, one}
 use Rattle.plays.proofs.Causes.{tick-cause}
 use Rattle.plays.proofs.Runs.{seenAll, accepted-mm, fair, same-ticks, lasts-last, lasting, Begins, begins, run-is}
 
@@ -41,7 +43,7 @@ fixed m s es l = lasting es m l .1
 
 -- ---- leaving
 
-goes-on : (m : Master) → Begins m → (es : List Event) → Lasts m es → Going (replay.run (m .sequence) (m .tan) (seenAll m es))
+goes-on : (m : Master) → Begins m → (es : List Event) → Lasts m es → Going (replay.playRun (m .sequence) (m .tan) (seenAll m es))
 goes-on m b es l = subst Going (sym (run-is m b es l)) tt
 
 pub leaves-exactly : (m : Master) → Started m → (es : List Event) → Lasts m es
@@ -49,7 +51,7 @@ pub leaves-exactly : (m : Master) → Started m → (es : List Event) → Lasts 
 leaves-exactly m s es l i t =
     let b = begins m s in
     subst (λ (mms : List ℕ). LeftAt (runFrom m es) i t ↔ (Latest (m .sequence) mms i t × (t ≤ length mms))) (same-ticks m es)
-    (subst (λ (x : State). replay.LeftAt x i t ↔ (Latest (m .sequence) (ticksOf (seenAll m es)) i t × (t ≤ length (ticksOf (seenAll m es)))))
+    (subst (λ (x : State). replay.HasLeftAt x i t ↔ (Latest (m .sequence) (ticksOf (seenAll m es)) i t × (t ≤ length (ticksOf (seenAll m es)))))
     (run-is m b es l)
     (theorems.leaves-exactly (m .sequence) (b .whole) (m .tan) (seenAll m es) (fair m es) (goes-on m b es l) i t))
 
@@ -85,26 +87,18 @@ goes-shown q n s (isDone p a) g = absurd g
 goes-shown q n s (isAborted a) g = absurd g
 
 -- a call that ends a playback was not refused
-not-refused : (m : Master) → Playing m → (w : ℕ) (d : Outcome) → ¬ Playing (unless w m d .master) → eqb w 0 ≡ true
-unfolding pick gives
-not-refused m h w d np = go (eqb w 0) refl np
-  where
-    go : (b : Bool) → eqb w 0 ≡ b → ¬ Playing (pick (not b) (gives w m) d .master) → eqb w 0 ≡ true
-    go true q n = q
-    go false q n = absurd (n h)
+not-refused : (m : Master) (c : Call) → Playing m → ¬ Playing (outcomeOf m c .master) → eqb (outcomeOf m c .number) 0 ≡ true
+not-refused m c h np =
+    either (eqb (outcomeOf m c .number) 0) (λ t. t) (λ f. absurd (np (subst Playing (sym (same-master m c (eqb-false (outcomeOf m c .number) 0 f))) h)))
 
 -- an answer that ends it is an error, or the last
-plays-on : (m : Master) (a : Answered) → Playing m → a .over ≡ 0 → Playing (replied m a)
+plays-on : (m : Master) (a : Answered) → Playing m → a .end ≡ goesOn → Playing (replied m a)
 unfolding replied pick
 plays-on m a h z = rw z h
 
-ending-answer : (m : Master) (w : ℕ) (a : Answered) → Playing m → ¬ Playing (unless w m (gives 0 (replied m a)) .master) → a .over ≡ 0 → ⊥
-unfolding pick gives
-ending-answer m w a h np z = go (eqb w 0) np
-  where
-    go : (b : Bool) → ¬ Playing (pick (not b) (gives w m) (gives 0 (replied m a)) .master) → ⊥
-    go true n = n (plays-on m a h z)
-    go false n = n h
+ending-answer : (m : Master) (slot : ℕ) (msg out : List ℕ) → Playing m → ¬ Playing (apply m (answer slot msg out) .master) → answered m slot msg .end ≡ goesOn → ⊥
+unfolding answerCall
+ending-answer m slot msg out h np z = np (either-way m (answerCall m slot msg out) Playing (λ _. h) (λ _. plays-on m (answered m slot msg) h z))
 
 -- an accepted tick is a tick
 pub seen-tick : (m : Master) (mm : ℕ) (out : List ℕ) → eqb (apply m (tick mm out) .number) 0 ≡ true → seen m (tick mm out) ≡ replay.tick mm
@@ -112,15 +106,11 @@ unfolding pick
 seen-tick m mm out e = rw e
 
 pub tick-accepted : (m : Master) (mm : ℕ) (out : List ℕ) → Playing m → ¬ Playing (apply m (tick mm out) .master) → eqb (apply m (tick mm out) .number) 0 ≡ true
-unfolding tickOf
-tick-accepted m mm out h np =
-    number-is (tickRefusal m mm (length out)) m (tickDone (ticked m mm)) refl
-    ∙ not-refused m h (tickRefusal m mm (length out)) (tickDone (ticked m mm)) np
+tick-accepted m mm out h np = not-refused m (tickCall m mm out) h np
 
 -- NOTHING ELSE ENDS IT
 caused : (m : Master) → Begins m → (es : List Event) → Lasts m es → (e : Event) → ¬ Playing (apply (runFrom m es) e .master) → View (runFrom m es) e
     → Cause (runFrom m es) e
-unfolding answerOf
 caused m b es l e np (aTick mm out) =
     let n = runFrom m es in
     let a = tick-accepted n mm out (lasts-last es m l) np in
@@ -131,9 +121,9 @@ caused m b es l e np (aTick mm out) =
     (λ g. np (goes-shown (n .sequence) (apply n (tick mm out) .master) _ (one n (tick mm out) (lasts-last es m l)) (rw (seen-tick n mm out a, f) g))))
 caused m b es l e np (anAnswer slot msg out) =
     let n = runFrom m es in
-    go (why-over (n .sequence) (n .playback) slot (replyIn msg) (ending-answer n (answerRefusal n slot msg (length out)) (answered n slot msg) (lasts-last es m l) np))
+    go (why-over (n .sequence) (n .playback) slot (replyIn msg) (ending-answer n slot msg out (lasts-last es m l) np))
   where
-    go : (isError (numberOf (replyIn msg .status)) (replyIn msg .error) ≡ true)
+    go : (isError (statusNumber (replyIn msg .status)) (replyIn msg .error) ≡ true)
         ⊎ (isAllDone (answered (runFrom m es) slot msg .playback) (lengthOf (runFrom m es .sequence)) ≡ true) → Cause (runFrom m es) (answer slot msg out)
     go (inl x) = answersError slot msg out x
     go (inr x) = isLast slot msg out x

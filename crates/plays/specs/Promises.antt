@@ -1,16 +1,16 @@
 -- "3. Number the accepted ticks of a playback from 1; .." of every playback of the master, from an accepted start, whatever calls come between.
--- Assumes nothing: these are statements.
 use Prim.Native.Nat.{ℕ, suc, _+_, _≤_, _<_}
 use mathlib.Core.Path.{_≡_}
 use mathlib.Core.Logic.{_↔_, _⊎_}
 use mathlib.Core.List.{List, [], _∷_, _++_}
 use lib.ListN.{length}
-use Rattle.playback.specs.State.{blankPlayback}
-use Rattle.playback.specs.Frames.{waitingOf}
+use Rattle.octets.specs.Numbers.{completed}
+use Rattle.playback.specs.{State.blankPlayback, Frames.waitingOf}
 use Rattle.replay.specs.Run.{Whole, DueAt, Latest, HasAnswer, sentAt, raised}
 use Rattle.master.specs.declared.Master.{Master}
-use Rattle.events.specs.Events.{Event, tick, apply, left, runFrom, Given}
-use Rattle.plays.specs.Plays.{Started, Playing, Lasts, ticksIn, LeftAt, commandOf, frameAt, Waits, FirstLeaves, Cause, Replied, Aborts, Finishes}
+use Rattle.events.specs.Events.{Event, tick, apply, lentAfter, runFrom, Given}
+use Rattle.events.specs.Causes.{Waits, Cause}
+use Rattle.plays.specs.Plays.{Started, Playing, Lasts, ticksIn, LeftAt, commandOf, frameAt, FirstLeaves, Replied, Aborts, Finishes}
 
 pub record Promises : Type 0 where
   -- every master that calls give holds its sequence in an array of 64
@@ -29,14 +29,14 @@ pub record Promises : Type 0 where
   pub first : (m : Master) → Started m → (es : List Event) → Lasts m es → (i t : ℕ) → LeftAt (runFrom m es) i t → FirstLeaves m es i t
   -- "and each repeat is the same command": at every accepted tick through which the playback lasts, the frame of each step that waits is its one command
   pub repeats : (m : Master) → Started m → (es : List Event) (mm : ℕ) (out : List ℕ) → Lasts m (es ++ tick mm out ∷ [])
-      → apply (runFrom m es) (tick mm out) .number ≡ 0
+      → apply (runFrom m es) (tick mm out) .number ≡ completed
       → (i : ℕ) → Waits (apply (runFrom m es) (tick mm out) .master) i
-      → frameAt (waitingOf i (apply (runFrom m es) (tick mm out) .master .playback .commands)) (left (runFrom m es) (tick mm out)) ≡ commandOf m i
+      → frameAt (waitingOf i (apply (runFrom m es) (tick mm out) .master .playback .commands)) (lentAfter (runFrom m es) (tick mm out)) ≡ commandOf m i
   -- there is no other frame: each of those that the tick counts is that of a step that waits
   pub no-other : (m : Master) → Started m → (es : List Event) (mm : ℕ) (out : List ℕ) → Lasts m (es ++ tick mm out ∷ [])
-      → apply (runFrom m es) (tick mm out) .number ≡ 0
+      → apply (runFrom m es) (tick mm out) .number ≡ completed
       → (k : ℕ) → k < apply (runFrom m es) (tick mm out) .count
-      → (i : ℕ) × (Waits (apply (runFrom m es) (tick mm out) .master) i × (frameAt k (left (runFrom m es) (tick mm out)) ≡ commandOf m i))
+      → (i : ℕ) × (Waits (apply (runFrom m es) (tick mm out) .master) i × (frameAt k (lentAfter (runFrom m es) (tick mm out)) ≡ commandOf m i))
   -- "No message a client sends can move that tick; it can only end the playback.": the same accepted ticks give the same leavings, whatever else is called
   pub unmoved : (m n : Master) → Started m → Started n → m .sequence ≡ n .sequence → (es fs : List Event) → Lasts m es → Lasts n fs
       → ticksIn m es ≡ ticksIn n fs → (i t : ℕ) → LeftAt (runFrom m es) i t → LeftAt (runFrom n fs) i t

@@ -1,28 +1,27 @@
 -- The laws of the chains: what is sought along a chain is what is found along the places, and a chain grows at its front.
--- Assumes nothing.
-use Prim.Native.Nat.{ℕ, zero, suc, _+_, _-_, _%_, _≤_, _<_}
+use Prim.Native.Nat.{ℕ, suc, _+_, _-_, _%_, _≤_, _<_}
 use native.Mathlib.Nat.{le-refl, mod-lt}
 use native.Mathlib.Numerals.{add-one}
 use native.Mathlib.Omega.{arith}
 use mathlib.Core.Path.{_≡_, refl, sym, ap, _∙_}
 use mathlib.Core.List.{List, [], _∷_}
-use mathlib.Core.Bool.{Bool, true, false, _&&_}
+use mathlib.Core.Bool.{Bool, true, false}
 use lib.Dec.{eqb, lit<}
 use lib.ListN.{length, getD, drop, set, drop-of-length-le, length-drop, length-set, replicate, getD-replicate}
 use lib.Seq.{drop-cons, drop-length, getD-set-same, getD-set-other}
-use borrow.Author.Tests.{eq-eqb, ne-eqb, eqb-true, eqb-false}
+use borrow.Author.Tests.{ne-eqb, eqb-true, eqb-false}
 use Rattle.octets.specs.Pick.{pick}
 use Rattle.octets.proofs.Laws.{here, past}
-use Rattle.pool.specs.Fields.{numberOf, kindAt}
+use Rattle.pool.specs.Fields.{objectNumber}
 use Rattle.pool.specs.StageTwo.{find, isObject}
-use Rattle.pool.specs.Index.{chainOf, inChain, seek, Heads, Links, Indexed}
+use Rattle.pool.specs.Search.Index.{chainOf, inChain, seek, Heads, Links, Unused, Indexed}
 use Rattle.pool.proofs.Lists.{find-next}
 
 -- an object of this number is in the number's chain
 pub other-chain : (s : List ℕ) (kind n p : ℕ) → inChain s (n % 1024) p ≡ false → isObject s kind n p ≡ false
 unfolding inChain isObject
 other-chain s kind n p e =
-    let d : eqb (numberOf s p) n ≡ false = ne-eqb (numberOf s p) n (λ m. eqb-false (chainOf s p) (n % 1024) e (ap (λ (x : ℕ). x % 1024) m)) in
+    let d : eqb (objectNumber s p) n ≡ false = ne-eqb (objectNumber s p) n (λ m. eqb-false (chainOf s p) (n % 1024) e (ap (λ (x : ℕ). x % 1024) m)) in
     rw d
 
 -- what is sought by a weaker test passes over nothing
@@ -72,7 +71,7 @@ module _ (s ps chain : List ℕ) (k : ℕ) (long : length chain ≡ 3072) (few :
   linked = set chain (1024 + k) (getD chain (chainOf s p) 0)
 
   small : chainOf s p < 1024
-  small = mod-lt (numberOf s p) (lit< tt)
+  small = mod-lt (objectNumber s p) (lit< tt)
 
   pub heads-grown : Heads s ps (grown s ps chain k) k
   unfolding seek inChain pick
@@ -91,25 +90,32 @@ module _ (s ps chain : List ℕ) (k : ℕ) (long : length chain ≡ 3072) (few :
           ∙ heads b hb
           ∙ rw (add-one k))
 
+  apart : (j : ℕ) → getD (grown s ps chain k) (1024 + j) 0 ≡ getD linked (1024 + j) 0
+  apart j = getD-set-other linked (chainOf s p) (1024 + j) k 0 (λ m. omega (arith, small))
+
+  pub unused-grown : Unused ps chain → Unused ps (grown s ps chain k)
+  unused-grown unused j hj hl =
+      apart j ∙ getD-set-other chain (1024 + k) (1024 + j) (getD chain (chainOf s p) 0) 0 (λ m. omega arith) ∙ unused j hj hl
+
   pub links-grown : Links s ps chain (k + 1) → Links s ps (grown s ps chain k) k
   links-grown links j hj hl = go (eqb j k) refl
     where
-      apart : getD (grown s ps chain k) (1024 + j) 0 ≡ getD linked (1024 + j) 0
-      apart = getD-set-other linked (chainOf s p) (1024 + j) k 0 (λ m. omega (arith, small))
-
       go : (t : Bool) → eqb j k ≡ t → getD (grown s ps chain k) (1024 + j) 0 ≡ seek (inChain s (chainOf s (getD ps j 0))) (j + 1) (drop (j + 1) ps)
       go true e =
           let m : j ≡ k = eqb-true j k e in
-          apart ∙ rw m (getD-set-same chain (1024 + k) (getD chain (chainOf s p) 0) 0 (omega arith) ∙ heads (chainOf s p) small)
+          apart j ∙ rw m (getD-set-same chain (1024 + k) (getD chain (chainOf s p) 0) 0 (omega arith) ∙ heads (chainOf s p) small)
       go false e =
           let n : j ≡ k → ⊥ = eqb-false j k e in
-          apart ∙ getD-set-other chain (1024 + k) (1024 + j) (getD chain (chainOf s p) 0) 0 (λ m. n (omega arith)) ∙ links j (omega (arith, n)) hl
+          apart j ∙ getD-set-other chain (1024 + k) (1024 + j) (getD chain (chainOf s p) 0) 0 (λ m. n (omega arith)) ∙ links j (omega (arith, n)) hl
 
 -- ---- at the start there are no chains
 
 pub heads-none : (s ps : List ℕ) → Heads s ps (replicate 3072 2048) (length ps)
 unfolding seek
 heads-none s ps b hb = rw (drop-length ps) (getD-replicate {A = ℕ} 3072 b 2048 0 (omega arith))
+
+pub unused-none : (ps : List ℕ) → Unused ps (replicate 3072 2048)
+unused-none ps j hj hl = getD-replicate {A = ℕ} 3072 (1024 + j) 2048 0 (omega arith)
 
 -- ---- along the chain of a number
 

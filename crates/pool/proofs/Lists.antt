@@ -1,13 +1,12 @@
 -- Lists that are read off a pool and gathered in an array, and the first of a list at which a test holds.
--- Assumes nothing.
-use Prim.Native.Nat.{ℕ, zero, suc, _+_, _*_, _≤_, _<_}
+use Prim.Native.Nat.{ℕ, zero, suc, _+_, _-_, _*_, _≤_, _<_}
 use native.Mathlib.Numerals.{add-one}
 use native.Mathlib.Omega.{arith}
 use mathlib.Core.Path.{_≡_, refl, sym, ap, _∙_}
-use mathlib.Core.List.{List, [], _∷_, _++_, map}
+use mathlib.Core.List.{List, [], _∷_, map}
 use mathlib.Core.Bool.{Bool, true, false}
-use lib.ListN.{length, getD, take, drop, set, length-map, drop-of-length-le}
-use lib.Seq.{drop-cons, take-suc, take-suc-set, take-all}
+use lib.ListN.{length, getD, take, drop, set, replicate, length-map, drop-of-length-le}
+use lib.Seq.{drop-cons, drop-drop, drop-set-lt, take-suc, take-suc-set, take-all}
 use Rattle.octets.specs.Pick.{pick}
 use Rattle.octets.specs.Octets.{numberAt}
 use Rattle.octets.proofs.Laws.{number-one}
@@ -74,6 +73,12 @@ module _ (f : ℕ → ℕ) (l : List ℕ) where
       let same : n ≡ k = omega arith in
       let whole : length (map f l) ≤ k = rw (length-map l f) (omega arith) in
       rw (same) (e ∙ take-all k (map f l) whole)
+
+-- the cells after the one stored are 0
+pub blank-after : (out : List ℕ) (k v m : ℕ) → k < m → drop k out ≡ replicate (m - k) 0 → drop (k + 1) (set out k v) ≡ replicate (m - (k + 1)) 0
+blank-after out k v m h e =
+    let more : m - k ≡ suc (m - (k + 1)) = omega arith in
+    drop-set-lt (k + 1) out k v (omega arith) ∙ sym (drop-drop 1 k out) ∙ rw (e, more)
 
 -- ---- the first element at which f holds, from element k on
 

@@ -1,5 +1,4 @@
 -- The first key that stood before: how the search goes on from key k, and the bits that hold the keys seen.
--- Assumes nothing.
 use Prim.Native.Nat.{ℕ, suc, _+_, _/_, _%_, _≤_, _<_}
 use native.Mathlib.Numerals.{add-one}
 use native.Mathlib.Omega.{arith}
@@ -7,7 +6,7 @@ use mathlib.Core.Path.{_≡_, refl, sym, ap, _∙_}
 use mathlib.Core.List.{List, [], _∷_, _++_}
 use mathlib.Core.Bool.{Bool, true, false, _||_}
 use lib.Dec.{eqb}
-use lib.ListN.{length, getD, take, drop, set, drop-of-length-le, length-replicate, getD-replicate, replicate}
+use lib.ListN.{length, getD, take, drop, set, drop-of-length-le, getD-replicate, replicate}
 use lib.Seq.{drop-cons, take-suc, getD-set-same, getD-set-other}
 use borrow.Author.Tests.{eq-eqb, ne-eqb, le-ltb, lt-ltb, eqb-true, eqb-false}
 use Rattle.octets.specs.Pick.{pick}

@@ -1,5 +1,4 @@
 -- The laws of the walk along a pool: how long an object is at least and at most, and how the places go on from a place.
--- Assumes nothing.
 use Prim.Native.Nat.{ℕ, zero, suc, _+_, _-_, _≤_, _<_}
 use native.Mathlib.Nat.{lt-of-not-le}
 use native.Mathlib.Decide.{decLe}

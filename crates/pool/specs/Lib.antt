@@ -3,6 +3,6 @@ pub mod Fields
 pub mod Ranges
 pub mod StageOne
 pub mod StageTwo
-pub mod Index
+pub mod Search
 pub mod Pool
 pub mod Cases

@@ -1,12 +1,8 @@
 -- 01, "The pool": the ranges of the fields, over the fields by name.
--- Assumes nothing: these are definitions.
 use Prim.Native.Nat.{ℕ}
 use mathlib.Core.Bool.{Bool, not, _&&_, _||_}
 use lib.Dec.{leb, eqb}
-use Rattle.pool.specs.declared.BaseHead.{BaseHead}
-use Rattle.pool.specs.declared.FunctionHead.{FunctionHead}
-use Rattle.pool.specs.declared.StateHead.{StateHead}
-use Rattle.pool.specs.declared.Head.{Head}
+use Rattle.pool.specs.{declared.BaseHead.BaseHead, declared.FunctionHead.FunctionHead, declared.StateHead.StateHead, declared.Head.Head}
 use Rattle.pool.specs.declared.Head.the-variants.{Base, Function, State}
 
 -- "N of 0 or above 63, code 09, then M so, 0B"; "63 decides"
@@ -19,7 +15,7 @@ numberRight n = leb 1 n && leb n 65534
 
 -- "names and pictures not FFFF"
 abbrev pub namesRight : ℕ → ℕ → Bool
-namesRight name picture = not (eqb name 65535) && not (eqb picture 65535)
+namesRight name picture = not (eqb name 0xFFFF) && not (eqb picture 0xFFFF)
 
 -- "base number 0", "version 0 to 2; O at least 1"
 abbrev pub baseRight : BaseHead → Bool
@@ -35,27 +31,27 @@ triggerRight t = eqb t 1 || eqb t 2 || eqb t 255
 
 -- "scale finite and above zero": its bits are those of an f32 from the least above zero to the greatest finite one
 abbrev pub scaleRight : ℕ → Bool
-scaleRight bits = leb 1 bits && leb bits 2139095039
+scaleRight bits = leb 1 bits && leb bits 0x7F7FFFFF
 
 -- "Style 00: minimum, maximum, offset, scale, decimals and unit are all one bits."
 abbrev pub unshownRight : FunctionHead → Bool
 unshownRight h =
-    eqb (h .minimum) 4294967295
-    && eqb (h .maximum) 4294967295
-    && eqb (h .offset) 4294967295
-    && eqb (h .scale) 4294967295
-    && eqb (h .decimals) 255
-    && eqb (h .unit) 65535
+    eqb (h .minimum) 0xFFFFFFFF
+    && eqb (h .maximum) 0xFFFFFFFF
+    && eqb (h .offset) 0xFFFFFFFF
+    && eqb (h .scale) 0xFFFFFFFF
+    && eqb (h .decimals) 0xFF
+    && eqb (h .unit) 0xFFFF
 
 -- "Styles 01 and 10: scale finite and above zero, decimals at most 7, unit not FFFF."
 abbrev pub shownRight : FunctionHead → Bool
-shownRight h = scaleRight (h .scale) && leb (h .decimals) 7 && not (eqb (h .unit) 65535)
+shownRight h = scaleRight (h .scale) && leb (h .decimals) 7 && not (eqb (h .unit) 0xFFFF)
 
 -- "attribute 0 to 2"; "Style 01: minimum and maximum are all one bits. Style 10: minimum at most maximum."
 abbrev pub valueRight : FunctionHead → Bool
 valueRight h =
     eqb (h .attribute) 0 && unshownRight h
-    || eqb (h .attribute) 1 && eqb (h .minimum) 4294967295 && eqb (h .maximum) 4294967295 && shownRight h
+    || eqb (h .attribute) 1 && eqb (h .minimum) 0xFFFFFFFF && eqb (h .maximum) 0xFFFFFFFF && shownRight h
     || eqb (h .attribute) 2 && leb (h .minimum) (h .maximum) && shownRight h
 
 -- "S at most 64"

@@ -1,14 +1,13 @@
 -- 01, "The pool": "Stage two, each over the whole pool: .." `ps` are the places of the pool's objects, in order, and `b` that of its base.
--- Assumes nothing: these are definitions.
-use Prim.Native.Nat.{ℕ, suc, _+_}
+use Prim.Native.Nat.{ℕ, suc}
 use mathlib.Core.List.{List, [], _∷_, _++_, map}
 use mathlib.Core.Bool.{Bool, false, not, _&&_, _||_}
-use lib.ListN.{length, getD}
+use lib.ListN.{length, getD, take}
 use lib.Dec.{ltb, leb, eqb}
-use Rattle.octets.specs.Pick.{pick}
+use Rattle.octets.specs.{Pick.pick, declared.label.Label.Label}
 use Rattle.pool.specs.declared.Verdict.{Verdict}
-use Rattle.pool.specs.Verdicts.{verdict, fine, first, firstFault}
-use Rattle.pool.specs.Fields.{numberOf, kindAt, idAt, versionLabel, functionsOf, statesOf, placesFrom}
+use Rattle.pool.specs.Verdicts.{fault, firstOf, firstFault}
+use Rattle.pool.specs.Fields.{objectNumber, kindAt, idAt, baseType, functionType, stateType, baseAt, versionLabel, functionsOf, statesOf, placesFrom}
 
 -- ---- which object a number means
 
@@ -21,7 +20,7 @@ find f (p ∷ ps) d =
 
 -- "of that number and of the wanted type"
 unfoldable pub isObject : List ℕ → ℕ → ℕ → ℕ → Bool
-isObject s kind n p = eqb (numberOf s p) n && eqb (kindAt s p) kind
+isObject s kind n p = eqb (objectNumber s p) n && eqb (kindAt s p) kind
 
 -- the place of the object of this number and type, and the pool's length where there is none
 unfoldable pub objectOf : List ℕ → List ℕ → ℕ → ℕ → ℕ
@@ -34,6 +33,10 @@ absent s ps kind n = leb (length s) (objectOf s ps kind n)
 -- the ID of the object of this number and type
 unfoldable pub idOf : List ℕ → List ℕ → ℕ → ℕ → ℕ
 idOf s ps kind n = idAt s (objectOf s ps kind n)
+
+-- the states that the function of this number lists
+abbrev pub statesListed : List ℕ → List ℕ → ℕ → List ℕ
+statesListed s ps n = statesOf s (objectOf s ps functionType n)
 
 -- ---- what stood before
 
@@ -48,81 +51,72 @@ firstRepeat seen (k ∷ ks) =
     let later : ℕ = suc (firstRepeat (seen ++ k ∷ []) ks) in
     pick (isIn k seen) 0 later
 
--- "For 05, 06 and 07 the later object is named (for a number listed twice, that number)": the name beside the key that stood before
-unfoldable pub repeatFault : ℕ → List ℕ → List ℕ → Verdict
-repeatFault code names keys =
-    pick (ltb (firstRepeat [] keys) (length keys)) (verdict code (getD names (firstRepeat [] keys) 0)) fine
+-- ---- the characters of a label
 
--- ---- the rules, in their order
-
--- "no base, 02 with object 0000": a base has number 0 and type 0
-abbrev pub noBase : List ℕ → ℕ → Verdict
-noBase s b = pick (ltb b (length s)) fine (verdict 2 0)
-
--- "object number seen before, 05"
-unfoldable pub numbersFault : List ℕ → List ℕ → Verdict
-numbersFault s ps = repeatFault 5 (map (numberOf s) ps) (map (numberOf s) ps)
-
--- "version not 2, 0C"
-abbrev pub versionFault : List ℕ → ℕ → Verdict
-versionFault s b = pick (eqb (getD s (b + 3) 0) 2) fine (verdict 12 0)
+-- the bytes that it has
+abbrev pub labelBytes : Label → List ℕ
+labelBytes l = take (l .length) (l .bytes)
 
 -- "one of the eleven characters that A.3 forbids": \ " ' ` / : * < > | ?
 abbrev pub isForbidden : ℕ → Bool
 isForbidden c =
-    eqb c 92 || eqb c 34 || eqb c 39 || eqb c 96 || eqb c 47 || eqb c 58 || eqb c 42 || eqb c 60 || eqb c 62 || eqb c 124 || eqb c 63
+    eqb c 0x5C || eqb c 0x22 || eqb c 0x27 || eqb c 0x60 || eqb c 0x2F || eqb c 0x3A || eqb c 0x2A || eqb c 0x3C || eqb c 0x3E || eqb c 0x7C || eqb c 0x3F
 
 -- "20–7E and A0–FF": no byte is above FF
 abbrev pub isVisible : ℕ → Bool
-isVisible c = leb 32 c && leb c 126 || leb 160 c
+isVisible c = leb 0x20 c && leb c 0x7E || leb 0xA0 c
 
 abbrev pub characterRight : ℕ → Bool
 characterRight c = isVisible c && not (isForbidden c)
 
--- "a version label byte outside 20–7E and A0–FF or one of the eleven characters that A.3 forbids, 0A"
-abbrev pub characterFault : ℕ → Verdict
-characterFault c = pick (characterRight c) fine (verdict 10 0)
+-- ---- faults along a list, each with its code
 
-unfoldable pub labelFault : List ℕ → ℕ → Verdict
-labelFault s b = firstFault characterFault (versionLabel s b)
+-- "For 05, 06 and 07 the later object is named (for a number listed twice, that number)": the name beside the key that stood before
+unfoldable pub repeatFault : ℕ → List ℕ → List ℕ → Verdict
+repeatFault code names keys = fault (ltb (firstRepeat [] keys) (length keys)) code (getD names (firstRepeat [] keys) 0)
 
--- "a listed function absent, 03, naming the listed number"; "a listed state absent, 04, likewise": functions have type 1 and code 3, states
--- type 2 and code 4
-unfoldable pub absentFault : List ℕ → List ℕ → ℕ → ℕ → Verdict
-absentFault s ps kind n = pick (absent s ps kind n) (verdict (kind + 2) n) fine
+-- a byte of a label that it may not have: the base has number 0000
+abbrev pub characterFault : ℕ → ℕ → Verdict
+characterFault code c = fault (not (characterRight c)) code 0x0000
 
--- "two listed functions with one function ID, 06"; "two states of one function with one state ID, 07": the numbers listed, and their IDs
-unfoldable pub idsFault : List ℕ → List ℕ → ℕ → List ℕ → Verdict
-idsFault s ps kind listed = repeatFault (kind + 5) listed (map (idOf s ps kind) listed)
+-- a number listed of which no object of this type is there, "naming the listed number"
+unfoldable pub absentFault : List ℕ → List ℕ → ℕ → ℕ → ℕ → Verdict
+absentFault s ps code kind n = fault (absent s ps kind n) code n
 
--- the states that the function of this number lists
-abbrev pub statesListed : List ℕ → List ℕ → ℕ → List ℕ
-statesListed s ps n = statesOf s (objectOf s ps 1 n)
+-- two objects of this type with one ID, of the numbers listed
+unfoldable pub idsFault : List ℕ → List ℕ → ℕ → ℕ → List ℕ → Verdict
+idsFault s ps code kind listed = repeatFault code listed (map (idOf s ps kind) listed)
 
--- "a listed state absent, 04, likewise", and "two states of one function with one state ID, 07", of the function of this number
-unfoldable pub statesFault : List ℕ → List ℕ → ℕ → ℕ → Verdict
-statesFault s ps code n =
-    pick (eqb code 4) (firstFault (absentFault s ps 2) (statesListed s ps n)) (idsFault s ps 2 (statesListed s ps n))
+-- the states of the function of this number
+unfoldable pub statesAbsent : List ℕ → List ℕ → ℕ → ℕ → Verdict
+statesAbsent s ps code n = firstFault (absentFault s ps code stateType) (statesListed s ps n)
 
--- "a listed function absent, 03 ..; two listed functions with one function ID, 06"
-unfoldable pub functionsFault : List ℕ → List ℕ → List ℕ → Verdict
-functionsFault s ps functions = first (firstFault (absentFault s ps 1) functions) (idsFault s ps 1 functions)
+unfoldable pub statesAlike : List ℕ → List ℕ → ℕ → ℕ → Verdict
+statesAlike s ps code n = idsFault s ps code stateType (statesListed s ps n)
 
--- "a listed state absent, 04 ..; two states of one function .., 07", each over the whole pool: every 04 before any 07
-unfoldable pub statesFaults : List ℕ → List ℕ → List ℕ → Verdict
-statesFaults s ps functions = first (firstFault (statesFault s ps 4) functions) (firstFault (statesFault s ps 7) functions)
+-- ---- the rules
 
--- "lists are taken in list order, functions in the base's order"; "Objects nobody lists are kept and mean nothing.": only listed numbers are looked at
-unfoldable pub listsFault : List ℕ → List ℕ → List ℕ → Verdict
-listsFault s ps functions = first (functionsFault s ps functions) (statesFaults s ps functions)
+-- "lists are taken in list order, functions in the base's order. Objects nobody lists are kept and mean nothing.": only listed numbers are looked at
+unfoldable pub rulesOf : List ℕ → List ℕ → ℕ → List Verdict
+rulesOf s ps b =
+    -- "no base, 02 with object 0000;"
+    fault (leb (length s) b) 0x02 0x0000
+    -- "object number seen before, 05;"
+    ∷ repeatFault 0x05 (map (objectNumber s) ps) (map (objectNumber s) ps)
+    -- "version not 2, 0C;"
+    ∷ fault (not (eqb (baseAt s b .version) 2)) 0x0C 0x0000
+    -- "a version label byte outside 20–7E and A0–FF or one of the eleven characters that A.3 forbids, 0A;"
+    ∷ firstFault (characterFault 0x0A) (labelBytes (versionLabel s b))
+    -- "a listed function absent, 03, naming the listed number;"
+    ∷ firstFault (absentFault s ps 0x03 functionType) (functionsOf s b)
+    -- "two listed functions with one function ID, 06;"
+    ∷ idsFault s ps 0x06 functionType (functionsOf s b)
+    -- "a listed state absent, 04, likewise;"
+    ∷ firstFault (statesAbsent s ps 0x04) (functionsOf s b)
+    -- "two states of one function with one state ID, 07."
+    ∷ firstFault (statesAlike s ps 0x07) (functionsOf s b)
+    ∷ []
 
--- "no base, 02 ..; object number seen before, 05; version not 2, 0C; a version label byte .., 0A"
-unfoldable pub baseFault : List ℕ → List ℕ → ℕ → Verdict
-baseFault s ps b = first (noBase s b) (first (numbersFault s ps) (first (versionFault s b) (labelFault s b)))
-
--- "Stage two, each over the whole pool": 02, 05, 0C, 0A; then 03, 06, 04, 07
-unfoldable pub judged : List ℕ → List ℕ → ℕ → Verdict
-judged s ps b = first (baseFault s ps b) (listsFault s ps (functionsOf s b))
-
+-- a base has number 0 and type 0
 unfoldable pub stageTwo : List ℕ → Verdict
-stageTwo s = judged s (placesFrom s 0) (objectOf s (placesFrom s 0) 0 0)
+stageTwo s = firstOf (rulesOf s (placesFrom s 0) (objectOf s (placesFrom s 0) baseType 0))

@@ -1,15 +1,29 @@
 // An object's length and the fields of its fixed part, by its place. Places are below 65,536.
 ghost use mathlib.Core.Path.{_≡_};
 ghost use Prim.Native.Nat.{_+_, _≤_, _<_};
-ghost use Rattle.pool.specs.Fields.{kindAt, idAt, fixedOf, restAt, sizeAt, baseAt, functionAt, stateAt, headAt};
+ghost use Rattle.pool.specs.Fields.{objectNumber, kindAt, idAt, baseAt, functionAt, stateAt, headAt, fixedOf, restAt, sizeAt, versionLabel, configurationLabel};
+use crate::BASE_FIXED;
+use crate::BASE_TYPE;
 use crate::BaseHead;
+use crate::FUNCTION_FIXED;
+use crate::FUNCTION_TYPE;
 use crate::FunctionHead;
 use crate::Head;
+use crate::STATE_FIXED;
 use crate::StateHead;
 use octets::byte_at;
+use octets::label::Label;
+use octets::label::label_at;
 use octets::u16_at;
 use octets::u32_at;
 use octets::u64_at;
+
+pub fn object_number(s: &[u8], at: usize) -> u16
+    requires { ⌜ at < 65536 ⌝ }
+    ensures { λ r. ⌜ r ≡ objectNumber (now (s .entry)) at ⌝ }
+{
+    u16_at(s, at)
+}
 
 pub fn kind_at(s: &[u8], at: usize) -> u8
     requires { ⌜ at < 65536 ⌝ }
@@ -25,53 +39,28 @@ pub fn id_at(s: &[u8], at: usize) -> u8
     byte_at(s, at + 3)
 }
 
-pub fn fixed_of(kind: u8) -> usize
-    ensures { λ r. ⌜ r ≡ fixedOf kind ⌝ }
-    ensures { λ r. ⌜ r ≤ 30 ⌝ }
-{
-    if kind == 0 {
-        return 27;
-    }
-    if kind == 1 {
-        return 30;
-    }
-    8
-}
-
-fn rest_at(s: &[u8], at: usize) -> usize
+// The preferred trigger of the function at a place.
+pub fn trigger_at(s: &[u8], at: usize) -> u8
     requires { ⌜ at < 65536 ⌝ }
-    ensures { λ r. ⌜ r ≡ restAt (now (s .entry)) at ⌝ }
-    ensures { λ r. ⌜ r ≤ 1020 ⌝ }
+    ensures { λ r. ⌜ r ≡ functionAt (now (s .entry)) at .trigger ⌝ }
 {
-    let kind = kind_at(s, at);
-    if kind == 0 {
-        let n = byte_at(s, at + 24) as usize;
-        let m = byte_at(s, at + 25) as usize;
-        let o = byte_at(s, at + 26) as usize;
-        return n + m + 2 * o;
-    }
-    if kind == 1 {
-        let states = byte_at(s, at + 29) as usize;
-        return 2 * states;
-    }
-    0
+    byte_at(s, at + 4)
 }
 
-pub fn size_at(s: &[u8], at: usize) -> usize
+// S: how many states the function at a place lists.
+pub fn state_count(s: &[u8], at: usize) -> u8
     requires { ⌜ at < 65536 ⌝ }
-    ensures { λ r. ⌜ r ≡ sizeAt (now (s .entry)) at ⌝ }
-    ensures { λ r. ⌜ r ≤ 1050 ⌝ }
+    ensures { λ r. ⌜ r ≡ functionAt (now (s .entry)) at .s ⌝ }
 {
-    let kind = kind_at(s, at);
-    fixed_of(kind) + rest_at(s, at)
+    byte_at(s, at + 29)
 }
 
-fn base_at(s: &[u8], at: usize) -> BaseHead
+pub fn base_at(s: &[u8], at: usize) -> BaseHead
     requires { ⌜ at < 65536 ⌝ }
     ensures { λ r. ⌜ r ≡ baseAt (now (s .entry)) at ⌝ }
 {
     BaseHead {
-        number: u16_at(s, at),
+        number: object_number(s, at),
         version: byte_at(s, at + 3),
         master: u64_at(s, at + 4),
         mask: u64_at(s, at + 12),
@@ -88,9 +77,9 @@ fn function_at(s: &[u8], at: usize) -> FunctionHead
     ensures { λ r. ⌜ r ≡ functionAt (now (s .entry)) at ⌝ }
 {
     FunctionHead {
-        number: u16_at(s, at),
-        function: byte_at(s, at + 3),
-        trigger: byte_at(s, at + 4),
+        number: object_number(s, at),
+        function: id_at(s, at),
+        trigger: trigger_at(s, at),
         attribute: byte_at(s, at + 5),
         minimum: u32_at(s, at + 6),
         maximum: u32_at(s, at + 10),
@@ -100,7 +89,7 @@ fn function_at(s: &[u8], at: usize) -> FunctionHead
         unit: u16_at(s, at + 23),
         name: u16_at(s, at + 25),
         picture: u16_at(s, at + 27),
-        s: byte_at(s, at + 29),
+        s: state_count(s, at),
     }
 }
 
@@ -109,8 +98,8 @@ fn state_at(s: &[u8], at: usize) -> StateHead
     ensures { λ r. ⌜ r ≡ stateAt (now (s .entry)) at ⌝ }
 {
     StateHead {
-        number: u16_at(s, at),
-        state: byte_at(s, at + 3),
+        number: object_number(s, at),
+        state: id_at(s, at),
         name: u16_at(s, at + 4),
         picture: u16_at(s, at + 6),
     }
@@ -122,11 +111,66 @@ pub fn head_at(s: &[u8], at: usize) -> Head
     ensures { λ r. ⌜ r ≡ headAt (now (s .entry)) at ⌝ }
 {
     let kind = kind_at(s, at);
-    if kind == 0 {
+    if kind == BASE_TYPE {
         return Head::Base(base_at(s, at));
     }
-    if kind == 1 {
+    if kind == FUNCTION_TYPE {
         return Head::Function(function_at(s, at));
     }
     Head::State(state_at(s, at))
+}
+
+pub fn fixed_of(kind: u8) -> usize
+    ensures { λ r. ⌜ r ≡ fixedOf kind ⌝ }
+    ensures { λ r. ⌜ r ≤ 30 ⌝ }
+{
+    if kind == BASE_TYPE {
+        return BASE_FIXED;
+    }
+    if kind == FUNCTION_TYPE {
+        return FUNCTION_FIXED;
+    }
+    STATE_FIXED
+}
+
+fn rest_at(s: &[u8], at: usize) -> usize
+    requires { ⌜ at < 65536 ⌝ }
+    ensures { λ r. ⌜ r ≡ restAt (now (s .entry)) at ⌝ }
+    ensures { λ r. ⌜ r ≤ 1020 ⌝ }
+{
+    let kind = kind_at(s, at);
+    if kind == BASE_TYPE {
+        let base = base_at(s, at);
+        return base.n as usize + base.m as usize + 2 * (base.o as usize);
+    }
+    if kind == FUNCTION_TYPE {
+        return 2 * (state_count(s, at) as usize);
+    }
+    0
+}
+
+pub fn size_at(s: &[u8], at: usize) -> usize
+    requires { ⌜ at < 65536 ⌝ }
+    ensures { λ r. ⌜ r ≡ sizeAt (now (s .entry)) at ⌝ }
+    ensures { λ r. ⌜ r ≤ 1050 ⌝ }
+{
+    let kind = kind_at(s, at);
+    fixed_of(kind) + rest_at(s, at)
+}
+
+// The labels of the base at a place.
+pub fn version_label(s: &[u8], b: usize) -> Label
+    requires { ⌜ b < 65536 ⌝ }
+    ensures { λ r. ⌜ r ≡ versionLabel (now (s .entry)) b ⌝ }
+{
+    let base = base_at(s, b);
+    label_at(s, b + BASE_FIXED, base.n)
+}
+
+pub fn configuration_label(s: &[u8], b: usize) -> Label
+    requires { ⌜ b < 65536 ⌝ }
+    ensures { λ r. ⌜ r ≡ configurationLabel (now (s .entry)) b ⌝ }
+{
+    let base = base_at(s, b);
+    label_at(s, b + BASE_FIXED + base.n as usize, base.m)
 }

@@ -17,9 +17,23 @@ pub struct Verdict {
 
 // "Success is 00, object FFFF."
 pub const FINE: Verdict = Verdict {
-    code: 0,
-    object: 65535,
+    code: 0x00,
+    object: 0xFFFF,
 };
+
+// The types of objects: byte 3 of tables A.1 to A.3.
+pub const BASE_TYPE: u8 = 0;
+
+pub const FUNCTION_TYPE: u8 = 1;
+
+pub const STATE_TYPE: u8 = 2;
+
+// How many bytes the fixed part of each has.
+pub const BASE_FIXED: usize = 27;
+
+pub const FUNCTION_FIXED: usize = 30;
+
+pub const STATE_FIXED: usize = 8;
 
 // The fixed part of a base: table A.1, bytes 1 to 27. n and m are the labels' lengths, o the number of functions listed.
 pub struct BaseHead {
@@ -71,12 +85,12 @@ pub fn check(pool: &[u8]) -> Verdict
 {
     if 16384 < pool.len() {
         return Verdict {
-            code: 255,
-            object: 65535,
+            code: 0xFF,
+            object: 0xFFFF,
         };
     }
     let one = stage_one::stage_one(pool);
-    if one.code != 0 {
+    if one.code != 0x00 {
         return one;
     }
     stage_two::stage_two(pool)

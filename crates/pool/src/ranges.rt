@@ -21,7 +21,7 @@ fn number_right(n: u16) -> bool
 fn names_right(name: u16, picture: u16) -> bool
     ensures { λ r. ⌜ r ≡ namesRight name picture ⌝ }
 {
-    (name != 65535) & (picture != 65535)
+    (name != 0xFFFF) & (picture != 0xFFFF)
 }
 
 fn base_right(h: BaseHead) -> bool
@@ -45,24 +45,24 @@ fn trigger_right(t: u8) -> bool
 fn scale_right(bits: u32) -> bool
     ensures { λ r. ⌜ r ≡ scaleRight bits ⌝ }
 {
-    (1 <= bits) & (bits <= 2139095039)
+    (1 <= bits) & (bits <= 0x7F7FFFFF)
 }
 
 fn unshown_right(h: FunctionHead) -> bool
     ensures { λ r. ⌜ r ≡ unshownRight h ⌝ }
 {
-    (h.minimum == 4294967295)
-        & (h.maximum == 4294967295)
-        & (h.offset == 4294967295)
-        & (h.scale == 4294967295)
-        & (h.decimals == 255)
-        & (h.unit == 65535)
+    (h.minimum == 0xFFFFFFFF)
+        & (h.maximum == 0xFFFFFFFF)
+        & (h.offset == 0xFFFFFFFF)
+        & (h.scale == 0xFFFFFFFF)
+        & (h.decimals == 0xFF)
+        & (h.unit == 0xFFFF)
 }
 
 fn shown_right(h: FunctionHead) -> bool
     ensures { λ r. ⌜ r ≡ shownRight h ⌝ }
 {
-    scale_right(h.scale) & (h.decimals <= 7) & (h.unit != 65535)
+    scale_right(h.scale) & (h.decimals <= 7) & (h.unit != 0xFFFF)
 }
 
 fn value_right(h: FunctionHead) -> bool
@@ -70,8 +70,8 @@ fn value_right(h: FunctionHead) -> bool
 {
     ((h.attribute == 0) & unshown_right(h))
         | ((h.attribute == 1)
-            & (h.minimum == 4294967295)
-            & (h.maximum == 4294967295)
+            & (h.minimum == 0xFFFFFFFF)
+            & (h.maximum == 0xFFFFFFFF)
             & shown_right(h))
         | ((h.attribute == 2) & (h.minimum <= h.maximum) & shown_right(h))
 }

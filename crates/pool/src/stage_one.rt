@@ -2,66 +2,50 @@
 ghost use mathlib.Core.Path.{_≡_};
 ghost use Prim.Native.Nat.{_≤_, _<_};
 ghost use lib.ListN.{length};
-ghost use Rattle.pool.specs.StageOne.{restCode, labelCode, codeAt, nameAt, stageOne};
+ghost use Rattle.pool.specs.StageOne.{codeAt, nameAt, stageOne};
+use crate::BASE_TYPE;
 use crate::FINE;
+use crate::STATE_TYPE;
 use crate::Verdict;
+use crate::fields::base_at;
 use crate::fields::fixed_of;
 use crate::fields::head_at;
 use crate::fields::kind_at;
+use crate::fields::object_number;
 use crate::fields::size_at;
 use crate::ranges::head_right;
 use crate::ranges::label_right;
-use octets::byte_at;
-use octets::u16_at;
 
-fn rest_code(s: &[u8], at: usize) -> u8
-    requires { ⌜ (at < 65536) × (at ≤ length (now s)) ⌝ }
-    ensures { λ r. ⌜ r ≡ restCode (now (s .entry)) at ⌝ }
-{
-    let left = s.len() - at;
-    if left < size_at(s, at) {
-        return 255;
-    }
-    if head_right(head_at(s, at)) {
-        return 0;
-    }
-    255
-}
-
-fn label_code(s: &[u8], at: usize) -> u8
-    requires { ⌜ (at < 65536) × (at ≤ length (now s)) ⌝ }
-    ensures { λ r. ⌜ r ≡ labelCode (now (s .entry)) at ⌝ }
-{
-    let kind = kind_at(s, at);
-    if kind != 0 {
-        return rest_code(s, at);
-    }
-    if !label_right(byte_at(s, at + 24)) {
-        return 9;
-    }
-    if !label_right(byte_at(s, at + 25)) {
-        return 11;
-    }
-    rest_code(s, at)
-}
-
-// The code of the fault of the object at a place, and 0 where it has none.
+// The code of the fault of the object at a place, and 00 where it has none.
 pub fn code_at(s: &[u8], at: usize) -> u8
     requires { ⌜ (at < 65536) × (at ≤ length (now s)) ⌝ }
     ensures { λ r. ⌜ r ≡ codeAt (now (s .entry)) at ⌝ }
 {
     let left = s.len() - at;
     if left < 3 {
-        return 255;
+        return 0xFF;
     }
     let kind = kind_at(s, at);
-    if 2 < kind {
-        return 1;
+    if STATE_TYPE < kind {
+        return 0x01;
     }
     if left < fixed_of(kind) {
-        return 255;
+        return 0xFF;
     }
-    label_code(s, at)
+    let base = base_at(s, at);
+    if (kind == BASE_TYPE) & !label_right(base.n) {
+        return 0x09;
+    }
+    if (kind == BASE_TYPE) & !label_right(base.m) {
+        return 0x0B;
+    }
+    if left < size_at(s, at) {
+        return 0xFF;
+    }
+    if !head_right(head_at(s, at)) {
+        return 0xFF;
+    }
+    0x00
 }
 
 fn name_at(s: &[u8], at: usize) -> u16
@@ -69,9 +53,9 @@ fn name_at(s: &[u8], at: usize) -> u16
     ensures { λ r. ⌜ r ≡ nameAt (now (s .entry)) at ⌝ }
 {
     if s.len() - at < 3 {
-        return 65535;
+        return 0xFFFF;
     }
-    u16_at(s, at)
+    object_number(s, at)
 }
 
 pub fn stage_one(s: &[u8]) -> Verdict
@@ -81,7 +65,7 @@ pub fn stage_one(s: &[u8]) -> Verdict
     let mut at: usize = 0;
     while at < s.len() {
         let code = code_at(s, at);
-        if code != 0 {
+        if code != 0x00 {
             return Verdict {
                 code,
                 object: name_at(s, at),

@@ -1,24 +1,32 @@
 // Stage two: the rules over the whole pool, in their order.
 ghost use mathlib.Core.Path.{_≡_};
 ghost use mathlib.Core.List.{map, []};
-ghost use Prim.Native.Nat.{_+_, _*_, _≤_, _<_};
-ghost use lib.ListN.{length, take};
-ghost use Rattle.pool.specs.Verdicts.{firstFault};
+ghost use Prim.Native.Nat.{_-_, _≤_, _<_};
+ghost use lib.ListN.{length, take, drop, replicate};
+ghost use Rattle.pool.specs.Verdicts.{firstOf, firstFault};
 ghost use Rattle.pool.specs.Verdicts as Verdicts;
-ghost use Rattle.pool.specs.Fields.{numberOf, numbersAt, placesFrom, functionsFrom, functionsOf};
-ghost use Rattle.pool.specs.Index.{Indexed};
-ghost use Rattle.pool.specs.StageTwo.{objectOf, idOf, firstRepeat, noBase, numbersFault, versionFault, isForbidden, characterRight, labelFault, absentFault, idsFault, statesFault, functionsFault, statesFaults, listsFault, baseFault, judged, stageTwo};
+ghost use Rattle.pool.specs.Fields.{objectNumber, numbersAt, placesFrom, versionLabel};
+ghost use Rattle.pool.specs.Search.Index.{Indexed};
+ghost use Rattle.pool.specs.StageTwo.{objectOf, idOf, firstRepeat, labelBytes, isForbidden, characterRight, repeatFault, characterFault, absentFault, idsFault, statesAbsent, statesAlike, rulesOf, stageTwo};
+use crate::BASE_FIXED;
+use crate::BASE_TYPE;
 use crate::FINE;
+use crate::FUNCTION_FIXED;
+use crate::FUNCTION_TYPE;
+use crate::STATE_TYPE;
 use crate::Verdict;
+use crate::fields::base_at;
 use crate::fields::id_at;
 use crate::fields::kind_at;
+use crate::fields::object_number;
 use crate::fields::size_at;
-use octets::byte_at;
+use crate::fields::state_count;
+use crate::fields::version_label;
 use octets::has_bit;
 use octets::u16_at;
 use octets::with_bit;
 
-// The places of a pool's objects, at the front: an object has 8 bytes at least, so a pool holds at most 2,048. The other cells are not read.
+// The places of a pool's objects, at the front: an object has 8 bytes at least, so a pool holds at most 2,048. The other cells are 0.
 pub struct Listed {
     pub count: usize,
     pub places: [u16; 2048],
@@ -26,7 +34,7 @@ pub struct Listed {
 
 pub fn list_places(s: &[u8]) -> Listed
     requires { ⌜ length (now s) ≤ 16384 ⌝ }
-    ensures { λ r. ⌜ (r .count ≤ 2048) × (length (r .places) ≡ 2048) × (take (r .count) (r .places) ≡ placesFrom (now (s .entry)) 0) ⌝ }
+    ensures { λ r. ⌜ (r .count ≤ 2048) × (length (r .places) ≡ 2048) × (take (r .count) (r .places) ≡ placesFrom (now (s .entry)) 0) × (drop (r .count) (r .places) ≡ replicate (2048 - r .count) 0) ⌝ }
 {
     let mut places = [0u16; 2048];
     let mut count: usize = 0;
@@ -50,7 +58,7 @@ pub fn chain_of(s: &[u8], ps: &[u16]) -> [u16; 3072]
     while 0 < k {
         k -= 1;
         let p = ps[k] as usize;
-        let b = (u16_at(s, p) % 1024) as usize;
+        let b = (object_number(s, p) % 1024) as usize;
         let next = chain[b];
         chain[1024 + k] = next;
         chain[b] = k as u16;
@@ -67,7 +75,7 @@ pub fn find_object(s: &[u8], ps: &[u16], chain: &[u16], kind: u8, n: u16) -> usi
     let mut i = chain[b] as usize;
     while i < ps.len() {
         let p = ps[i] as usize;
-        let number = u16_at(s, p);
+        let number = object_number(s, p);
         let found = kind_at(s, p);
         if (number == n) & (found == kind) {
             return p;
@@ -77,25 +85,25 @@ pub fn find_object(s: &[u8], ps: &[u16], chain: &[u16], kind: u8, n: u16) -> usi
     s.len()
 }
 
-// The number of each object, at the front.
+// The number of each object, at the front; the other cells are 0.
 fn numbers_of(s: &[u8], ps: &[u16]) -> [u16; 2048]
     requires { ⌜ length (now ps) ≤ 2048 ⌝ }
-    ensures { λ r. ⌜ take (length (now (ps .entry))) r ≡ map (numberOf (now (s .entry))) (now (ps .entry)) ⌝ }
+    ensures { λ r. ⌜ (take (length (now (ps .entry))) r ≡ map (objectNumber (now (s .entry))) (now (ps .entry))) × (drop (length (now (ps .entry))) r ≡ replicate (2048 - length (now (ps .entry))) 0) ⌝ }
 {
     let mut numbers = [0u16; 2048];
     let mut k: usize = 0;
     while k < ps.len() {
         let p = ps[k] as usize;
-        numbers[k] = u16_at(s, p);
+        numbers[k] = object_number(s, p);
         k += 1;
     }
     numbers
 }
 
-// The ID of each object of this type in the list of count numbers at a place, at the front.
+// The ID of each object of this type in the list of count numbers at a place, at the front; the other cells are 0.
 pub fn ids_of(s: &[u8], ps: &[u16], chain: &[u16], kind: u8, at: usize, count: usize) -> [u16; 255]
     requires { ⌜ Indexed (now s) (now ps) (now chain) × (at < 131072) × (count ≤ 255) ⌝ }
-    ensures { λ r. ⌜ take count r ≡ map (idOf (now (s .entry)) (now (ps .entry)) kind) (numbersAt 2 (now (s .entry)) at count) ⌝ }
+    ensures { λ r. ⌜ (take count r ≡ map (idOf (now (s .entry)) (now (ps .entry)) kind) (numbersAt 2 (now (s .entry)) at count)) × (drop count r ≡ replicate (255 - count) 0) ⌝ }
 {
     let mut ids = [0u16; 255];
     let mut k: usize = 0;
@@ -129,34 +137,18 @@ fn first_repeat(keys: &[u16]) -> usize
     k
 }
 
-// 05.
+// "object number seen before, 05"
 fn numbers_fault(s: &[u8], ps: &[u16]) -> Verdict
     requires { ⌜ length (now ps) ≤ 2048 ⌝ }
-    ensures { λ r. ⌜ r ≡ numbersFault (now (s .entry)) (now (ps .entry)) ⌝ }
+    ensures { λ r. ⌜ r ≡ repeatFault 0x05 (map (objectNumber (now (s .entry))) (now (ps .entry))) (map (objectNumber (now (s .entry))) (now (ps .entry))) ⌝ }
 {
     let numbers = numbers_of(s, ps);
     let n = ps.len();
     let k = first_repeat(&numbers[..n]);
     if k < n {
         return Verdict {
-            code: 5,
+            code: 0x05,
             object: numbers[k],
-        };
-    }
-    FINE
-}
-
-// 06 for the functions of a base, type 1; 07 for the states of a function, type 2.
-fn ids_fault(s: &[u8], ps: &[u16], chain: &[u16], kind: u8, at: usize, count: usize) -> Verdict
-    requires { ⌜ Indexed (now s) (now ps) (now chain) × (kind ≤ 2) × (at < 131072) × (count ≤ 255) ⌝ }
-    ensures { λ r. ⌜ r ≡ idsFault (now (s .entry)) (now (ps .entry)) kind (numbersAt 2 (now (s .entry)) at count) ⌝ }
-{
-    let ids = ids_of(s, ps, chain, kind, at, count);
-    let k = first_repeat(&ids[..count]);
-    if k < count {
-        return Verdict {
-            code: kind + 5,
-            object: u16_at(s, at + 2 * k),
         };
     }
     FINE
@@ -166,37 +158,39 @@ fn ids_fault(s: &[u8], ps: &[u16], chain: &[u16], kind: u8, at: usize, count: us
 fn is_forbidden(c: u8) -> bool
     ensures { λ r. ⌜ r ≡ isForbidden c ⌝ }
 {
-    (c == 92)
-        | (c == 34)
-        | (c == 39)
-        | (c == 96)
-        | (c == 47)
-        | (c == 58)
-        | (c == 42)
-        | (c == 60)
-        | (c == 62)
-        | (c == 124)
-        | (c == 63)
+    (c == 0x5C)
+        | (c == 0x22)
+        | (c == 0x27)
+        | (c == 0x60)
+        | (c == 0x2F)
+        | (c == 0x3A)
+        | (c == 0x2A)
+        | (c == 0x3C)
+        | (c == 0x3E)
+        | (c == 0x7C)
+        | (c == 0x3F)
 }
 
 fn character_right(c: u8) -> bool
     ensures { λ r. ⌜ r ≡ characterRight c ⌝ }
 {
-    (((32 <= c) & (c <= 126)) | (160 <= c)) & !is_forbidden(c)
+    (((0x20 <= c) & (c <= 0x7E)) | (0xA0 <= c)) & !is_forbidden(c)
 }
 
-// 0A.
+// "a version label byte outside 20–7E and A0–FF or one of the eleven characters that A.3 forbids, 0A"
 fn label_fault(s: &[u8], b: usize) -> Verdict
     requires { ⌜ b < 65536 ⌝ }
-    ensures { λ r. ⌜ r ≡ labelFault (now (s .entry)) b ⌝ }
+    ensures { λ r. ⌜ r ≡ firstFault (characterFault 0x0A) (labelBytes (versionLabel (now (s .entry)) b)) ⌝ }
 {
-    let n = byte_at(s, b + 24) as usize;
+    let label = version_label(s, b);
+    let n = label.length as usize;
+    let bytes = label.bytes;
     let mut k: usize = 0;
     while k < n {
-        if !character_right(byte_at(s, b + 27 + k)) {
+        if !character_right(bytes[k]) {
             return Verdict {
-                code: 10,
-                object: 0,
+                code: 0x0A,
+                object: 0x0000,
             };
         }
         k += 1;
@@ -204,59 +198,51 @@ fn label_fault(s: &[u8], b: usize) -> Verdict
     FINE
 }
 
-// 03 for functions, type 1, and 04 for states, type 2: the first absent number of a list.
-fn absent_fault(s: &[u8], ps: &[u16], chain: &[u16], kind: u8, at: usize, count: usize) -> Verdict
-    requires { ⌜ Indexed (now s) (now ps) (now chain) × (kind ≤ 2) × (at < 131072) × (count ≤ 255) ⌝ }
-    ensures { λ r. ⌜ r ≡ firstFault (absentFault (now (s .entry)) (now (ps .entry)) kind) (numbersAt 2 (now (s .entry)) at count) ⌝ }
+// The first number of a list of which no object of this type is there.
+fn absent_fault(
+    s: &[u8],
+    ps: &[u16],
+    chain: &[u16],
+    code: u8,
+    kind: u8,
+    at: usize,
+    count: usize,
+) -> Verdict
+    requires { ⌜ Indexed (now s) (now ps) (now chain) × (0 < code) × (at < 131072) × (count ≤ 255) ⌝ }
+    ensures { λ r. ⌜ r ≡ firstFault (absentFault (now (s .entry)) (now (ps .entry)) code kind) (numbersAt 2 (now (s .entry)) at count) ⌝ }
 {
     let mut k: usize = 0;
     while k < count {
         let n = u16_at(s, at + 2 * k);
         let p = find_object(s, ps, chain, kind, n);
         if s.len() <= p {
-            return Verdict {
-                code: kind + 2,
-                object: n,
-            };
+            return Verdict { code, object: n };
         }
         k += 1;
     }
     FINE
 }
 
-// 04 or 07 for the function of this number.
-fn states_fault(s: &[u8], ps: &[u16], chain: &[u16], code: u8, n: u16) -> Verdict
-    requires { ⌜ Indexed (now s) (now ps) (now chain) ⌝ }
-    ensures { λ r. ⌜ r ≡ statesFault (now (s .entry)) (now (ps .entry)) code n ⌝ }
-{
-    let p = find_object(s, ps, chain, 1, n);
-    let count = byte_at(s, p + 29) as usize;
-    if code == 4 {
-        return absent_fault(s, ps, chain, 2, p + 30, count);
-    }
-    ids_fault(s, ps, chain, 2, p + 30, count)
-}
-
-// 04 or 07 for the functions in a list.
-fn functions_fault(
+// The first number of a list whose object has an ID that stood before.
+fn ids_fault(
     s: &[u8],
     ps: &[u16],
     chain: &[u16],
     code: u8,
+    kind: u8,
     at: usize,
     count: usize,
 ) -> Verdict
     requires { ⌜ Indexed (now s) (now ps) (now chain) × (at < 131072) × (count ≤ 255) ⌝ }
-    ensures { λ r. ⌜ r ≡ firstFault (statesFault (now (s .entry)) (now (ps .entry)) code) (numbersAt 2 (now (s .entry)) at count) ⌝ }
+    ensures { λ r. ⌜ r ≡ idsFault (now (s .entry)) (now (ps .entry)) code kind (numbersAt 2 (now (s .entry)) at count) ⌝ }
 {
-    let mut k: usize = 0;
-    while k < count {
-        let n = u16_at(s, at + 2 * k);
-        let fault = states_fault(s, ps, chain, code, n);
-        if fault.code != 0 {
-            return fault;
-        }
-        k += 1;
+    let ids = ids_of(s, ps, chain, kind, at, count);
+    let k = first_repeat(&ids[..count]);
+    if k < count {
+        return Verdict {
+            code,
+            object: u16_at(s, at + 2 * k),
+        };
     }
     FINE
 }
@@ -265,93 +251,76 @@ fn functions_fault(
 fn first(v: Verdict, later: Verdict) -> Verdict
     ensures { λ r. ⌜ r ≡ Verdicts.first v later ⌝ }
 {
-    if v.code == 0 { later } else { v }
+    if v.code == 0x00 { later } else { v }
 }
 
-// 03 and 06.
-fn functions_rules(s: &[u8], ps: &[u16], chain: &[u16], at: usize, count: usize) -> Verdict
+// "a listed state absent, 04, likewise; two states of one function with one state ID, 07": every 04 comes before any 07. The functions are taken
+// from the last to the first, so that the fault of the first stays.
+fn states_fault(s: &[u8], ps: &[u16], chain: &[u16], at: usize, count: usize) -> Verdict
     requires { ⌜ Indexed (now s) (now ps) (now chain) × (at < 131072) × (count ≤ 255) ⌝ }
-    ensures { λ r. ⌜ r ≡ functionsFault (now (s .entry)) (now (ps .entry)) (numbersAt 2 (now (s .entry)) at count) ⌝ }
+    ensures { λ r. ⌜ r ≡ Verdicts.first (firstFault (statesAbsent (now (s .entry)) (now (ps .entry)) 0x04) (numbersAt 2 (now (s .entry)) at count)) (firstFault (statesAlike (now (s .entry)) (now (ps .entry)) 0x07) (numbersAt 2 (now (s .entry)) at count)) ⌝ }
 {
-    let three = absent_fault(s, ps, chain, 1, at, count);
-    let six = ids_fault(s, ps, chain, 1, at, count);
-    first(three, six)
-}
-
-// 04 and 07.
-fn states_rules(s: &[u8], ps: &[u16], chain: &[u16], at: usize, count: usize) -> Verdict
-    requires { ⌜ Indexed (now s) (now ps) (now chain) × (at < 131072) × (count ≤ 255) ⌝ }
-    ensures { λ r. ⌜ r ≡ statesFaults (now (s .entry)) (now (ps .entry)) (numbersAt 2 (now (s .entry)) at count) ⌝ }
-{
-    let four = functions_fault(s, ps, chain, 4, at, count);
-    if four.code != 0 {
-        return four;
+    let mut absent = FINE;
+    let mut alike = FINE;
+    let mut k = count;
+    while 0 < k {
+        k -= 1;
+        let n = u16_at(s, at + 2 * k);
+        let p = find_object(s, ps, chain, FUNCTION_TYPE, n);
+        let list = p + FUNCTION_FIXED;
+        let states = state_count(s, p) as usize;
+        let four = absent_fault(s, ps, chain, 0x04, STATE_TYPE, list, states);
+        absent = first(four, absent);
+        let seven = ids_fault(s, ps, chain, 0x07, STATE_TYPE, list, states);
+        alike = first(seven, alike);
     }
-    functions_fault(s, ps, chain, 7, at, count)
+    first(absent, alike)
 }
 
-// 03, 06, 04 and 07.
+// "a listed function absent, 03, naming the listed number; two listed functions with one function ID, 06"; then 04 and 07.
 fn lists_fault(s: &[u8], ps: &[u16], chain: &[u16], b: usize) -> Verdict
     requires { ⌜ Indexed (now s) (now ps) (now chain) × (b < 65536) ⌝ }
-    ensures { λ r. ⌜ r ≡ listsFault (now (s .entry)) (now (ps .entry)) (functionsOf (now (s .entry)) b) ⌝ }
+    ensures { λ r. ⌜ r ≡ firstOf (drop 4 (rulesOf (now (s .entry)) (now (ps .entry)) b)) ⌝ }
 {
-    let n = byte_at(s, b + 24) as usize;
-    let m = byte_at(s, b + 25) as usize;
-    let o = byte_at(s, b + 26) as usize;
-    let at = b + 27 + n + m;
-    let early = functions_rules(s, ps, chain, at, o);
-    if early.code != 0 {
-        return early;
+    let base = base_at(s, b);
+    let at = b + BASE_FIXED + base.n as usize + base.m as usize;
+    let count = base.o as usize;
+    let absent = absent_fault(s, ps, chain, 0x03, FUNCTION_TYPE, at, count);
+    if absent.code != 0x00 {
+        return absent;
     }
-    states_rules(s, ps, chain, at, o)
-}
-
-// 02.
-fn no_base(s: &[u8], b: usize) -> Verdict
-    ensures { λ r. ⌜ r ≡ noBase (now (s .entry)) b ⌝ }
-{
-    if b < s.len() {
-        FINE
-    } else {
-        Verdict { code: 2, object: 0 }
+    let alike = ids_fault(s, ps, chain, 0x06, FUNCTION_TYPE, at, count);
+    if alike.code != 0x00 {
+        return alike;
     }
+    states_fault(s, ps, chain, at, count)
 }
 
-// 0C.
-fn version_fault(s: &[u8], b: usize) -> Verdict
-    requires { ⌜ b < 65536 ⌝ }
-    ensures { λ r. ⌜ r ≡ versionFault (now (s .entry)) b ⌝ }
-{
-    if byte_at(s, b + 3) == 2 {
-        FINE
-    } else {
-        Verdict {
-            code: 12,
-            object: 0,
-        }
-    }
-}
-
-// 02, 05, 0C and 0A.
-fn base_fault(s: &[u8], ps: &[u16], b: usize) -> Verdict
-    requires { ⌜ (length (now ps) ≤ 2048) × (b < 65536) ⌝ }
-    ensures { λ r. ⌜ r ≡ baseFault (now (s .entry)) (now (ps .entry)) b ⌝ }
-{
-    let two = no_base(s, b);
-    let five = numbers_fault(s, ps);
-    let twelve = version_fault(s, b);
-    let ten = label_fault(s, b);
-    first(two, first(five, first(twelve, ten)))
-}
-
-// The rules in their order.
+// The rules in their order: 02, 05, 0C, 0A, then those on lists.
 fn judge(s: &[u8], ps: &[u16], chain: &[u16], b: usize) -> Verdict
     requires { ⌜ Indexed (now s) (now ps) (now chain) × (b < 65536) ⌝ }
-    ensures { λ r. ⌜ r ≡ judged (now (s .entry)) (now (ps .entry)) b ⌝ }
+    ensures { λ r. ⌜ r ≡ firstOf (rulesOf (now (s .entry)) (now (ps .entry)) b) ⌝ }
 {
-    let early = base_fault(s, ps, b);
-    if early.code != 0 {
-        return early;
+    if s.len() <= b {
+        return Verdict {
+            code: 0x02,
+            object: 0x0000,
+        };
+    }
+    let numbers = numbers_fault(s, ps);
+    if numbers.code != 0x00 {
+        return numbers;
+    }
+    let base = base_at(s, b);
+    if base.version != 2 {
+        return Verdict {
+            code: 0x0C,
+            object: 0x0000,
+        };
+    }
+    let label = label_fault(s, b);
+    if label.code != 0x00 {
+        return label;
     }
     lists_fault(s, ps, chain, b)
 }
@@ -366,6 +335,6 @@ pub fn stage_two(s: &[u8]) -> Verdict
     let ps = &places[..count];
     let index = chain_of(s, ps);
     let chain = &index[..3072];
-    let b = find_object(s, ps, chain, 0, 0);
+    let b = find_object(s, ps, chain, BASE_TYPE, 0);
     judge(s, ps, chain, b)
 }

@@ -1,5 +1,4 @@
 -- 01, "The job": a program "writes its code as two upper-case hex digits, a space, the object number as four, and a newline."
--- Assumes nothing: these are definitions.
 use Prim.Native.Nat.{ℕ, _+_, _/_, _%_}
 use mathlib.Core.List.{List, [], _∷_}
 use lib.Dec.{ltb}

@@ -1,24 +1,23 @@
 -- The laws of the tables of a profile: a set of state IDs has those of the list, and a table that is filled from the last function of a list to
 -- the first holds what the list says of each ID.
--- Assumes nothing.
-use Prim.Native.Nat.{ℕ, suc, _+_, _<_, _≤_}
+use Prim.Native.Nat.{ℕ, _+_, _<_, _≤_}
 use native.Mathlib.Numerals.{add-one}
 use native.Mathlib.Omega.{arith}
 use mathlib.Core.Path.{_≡_, refl, sym, ap, _∙_}
 use mathlib.Core.List.{List, [], _∷_, map}
 use mathlib.Core.Bool.{Bool, true, false, _||_}
 use lib.Dec.{eqb, ltb}
-use lib.ListN.{length, getD, drop, set, replicate, length-replicate, getD-replicate, drop-of-length-le}
+use lib.ListN.{length, getD, drop, set, replicate, getD-replicate, drop-of-length-le}
 use lib.Seq.{drop-cons, ext-getD, getD-set-same, getD-set-other}
-use borrow.Author.Tests.{eq-eqb, ne-eqb, eqb-true, eqb-false, ltb-false}
+use borrow.Author.Tests.{ne-eqb, eqb-true, eqb-false, ltb-false}
 use Rattle.octets.specs.Pick.{pick}
 use Rattle.octets.specs.Bits.{hasBit, withBit}
-use Rattle.octets.specs.Label.{cells}
+use Rattle.octets.specs.Label.{rowOf}
 use Rattle.octets.proofs.BitLaws.{has-with, has-none}
 use Rattle.octets.proofs.Cells.{length-cells, cell}
-use Rattle.pool.specs.Fields.{functionsOf, placesFrom}
+use Rattle.pool.specs.Fields.{baseType, functionType, stateType, functionAt, functionsOf, placesFrom}
 use Rattle.pool.specs.StageTwo.{objectOf, idOf, isIn, statesListed}
-use Rattle.profile.specs.Profile.{triggerAt, triggerIn, statesIn, bitsOf, tableOf, keptAt, keptOf, Says}
+use Rattle.profile.specs.Profile.{triggerIn, statesIn, bitsOf, tableOf, keptAt, keptOfPool, Says}
 
 -- ---- a set of state IDs
 
@@ -53,7 +52,7 @@ Table h t = (id : ℕ) → id < 256 → getD t id 0 ≡ h id
 pub table-is : (h : ℕ → ℕ) (t : List ℕ) → length t ≡ 256 → Table h t → t ≡ tableOf h
 unfolding tableOf
 table-is h t e says =
-    ext-getD 0 t (cells 256 h) (e ∙ sym (length-cells 256 h)) (λ i l.
+    ext-getD 0 t (rowOf 256 h) (e ∙ sym (length-cells 256 h)) (λ i l.
     let below : i < 256 = omega arith in
     says i below ∙ sym (cell 256 h i below))
 
@@ -85,7 +84,7 @@ module _ (s ps l : List ℕ) (k id : ℕ) where
   unfolding triggerIn
   trigger-end h = ap (λ (xs : List ℕ). triggerIn s ps xs id) (drop-of-length-le l h)
 
-  pub trigger-next : k < length l → triggerIn s ps (drop k l) id ≡ pick (eqb (idOf s ps 1 (getD l k 0)) id) (triggerAt s (objectOf s ps 1 (getD l k 0))) (triggerIn s ps (drop (k + 1) l) id)
+  pub trigger-next : k < length l → triggerIn s ps (drop k l) id ≡ pick (eqb (idOf s ps functionType (getD l k 0)) id) (functionAt s (objectOf s ps functionType (getD l k 0)) .trigger) (triggerIn s ps (drop (k + 1) l) id)
   unfolding triggerIn
   trigger-next h = rw (add-one, drop-cons l k 0)
 
@@ -93,17 +92,17 @@ module _ (s ps l : List ℕ) (k id : ℕ) where
   unfolding statesIn bitsOf
   states-end h = ap (λ (xs : List ℕ). bitsOf (statesIn s ps xs id)) (drop-of-length-le l h)
 
-  pub states-next : k < length l → bitsOf (statesIn s ps (drop k l) id) ≡ pick (eqb (idOf s ps 1 (getD l k 0)) id) (bitsOf (map (idOf s ps 2) (statesListed s ps (getD l k 0)))) (bitsOf (statesIn s ps (drop (k + 1) l) id))
+  pub states-next : k < length l → bitsOf (statesIn s ps (drop k l) id) ≡ pick (eqb (idOf s ps functionType (getD l k 0)) id) (bitsOf (map (idOf s ps stateType) (statesListed s ps (getD l k 0)))) (bitsOf (statesIn s ps (drop (k + 1) l) id))
   unfolding statesIn
-  states-next h = rw (add-one, drop-cons l k 0) (picked (eqb (idOf s ps 1 (getD l k 0)) id) _ _)
+  states-next h = rw (add-one, drop-cons l k 0) (picked (eqb (idOf s ps functionType (getD l k 0)) id) _ _)
 
 -- ---- what is kept says what the lists say
 
-pub says : (s : List ℕ) → Says s (keptOf s)
-unfolding keptOf keptAt
+pub says : (s : List ℕ) → Says s (keptOfPool s)
+unfolding keptOfPool keptAt
 says s =
     let ps = placesFrom s 0 in
-    let l = functionsOf s (objectOf s ps 0 0) in
+    let l = functionsOf s (objectOf s ps baseType 0) in
     record {
       triggers = table-says (triggerIn s ps l);
       states = λ id t h u. rw (table-says (λ (f : ℕ). bitsOf (statesIn s ps l f)) id h) (has-bits (statesIn s ps l id) t u);

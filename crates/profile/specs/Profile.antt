@@ -1,38 +1,30 @@
 -- 01, "The job": "Of an accepted pool the master keeps what its rules need". The rules need the master NAME, the mask and both labels (verification),
 -- each listed function's preferred trigger (marks) and the states it has (recording, verification). `ps` are the places of the pool's objects.
--- Assumes nothing: these are definitions.
-use Prim.Native.Nat.{ℕ, _+_, _<_}
+use Prim.Native.Nat.{ℕ, _<_}
 use mathlib.Core.Path.{_≡_}
 use mathlib.Core.List.{List, [], _∷_, map}
 use mathlib.Core.Bool.{Bool}
-use lib.ListN.{length, getD, replicate}
+use lib.ListN.{getD, replicate}
 use lib.Dec.{ltb, eqb}
-use Rattle.octets.specs.Pick.{pick}
-use Rattle.octets.specs.Octets.{numberAt}
-use Rattle.octets.specs.Bits.{hasBit, withBit}
-use Rattle.octets.specs.Label.{blank, cells, labelAt}
-use Rattle.pool.specs.Fields.{functionsOf, statesOf, placesFrom}
+use Rattle.octets.specs.{Pick.pick, Bits.hasBit, Bits.withBit, Label.blank, Label.rowOf}
+use Rattle.pool.specs.Fields.{baseType, functionType, stateType, baseAt, functionAt, versionLabel, configurationLabel, functionsOf, placesFrom}
 use Rattle.pool.specs.StageTwo.{objectOf, idOf, isIn, statesListed}
 use Rattle.pool.specs.Pool.{verdictOf}
 use Rattle.profile.specs.declared.Profile.{Profile}
-
--- table A.2, byte 5: the preferred trigger of the function at p
-abbrev pub triggerAt : List ℕ → ℕ → ℕ
-triggerAt s p = getD s (p + 4) 0
 
 -- the preferred trigger of the function with this ID in a list of function numbers, and 0 where the list has none
 unfoldable pub triggerIn : List ℕ → List ℕ → List ℕ → ℕ → ℕ
 triggerIn s ps [] id = 0
 triggerIn s ps (n ∷ ns) id =
     let later : ℕ = triggerIn s ps ns id in
-    pick (eqb (idOf s ps 1 n) id) (triggerAt s (objectOf s ps 1 n)) later
+    pick (eqb (idOf s ps functionType n) id) (functionAt s (objectOf s ps functionType n) .trigger) later
 
 -- the IDs of the states of the function with this ID, and none where the list has no such function
 unfoldable pub statesIn : List ℕ → List ℕ → List ℕ → ℕ → List ℕ
 statesIn s ps [] id = []
 statesIn s ps (n ∷ ns) id =
     let later : List ℕ = statesIn s ps ns id in
-    pick (eqb (idOf s ps 1 n) id) (map (idOf s ps 2) (statesListed s ps n)) later
+    pick (eqb (idOf s ps functionType n) id) (map (idOf s ps stateType) (statesListed s ps n)) later
 
 -- "state ID at most 63": a set of state IDs as 64 bits
 unfoldable pub bitsOf : List ℕ → ℕ
@@ -41,29 +33,29 @@ bitsOf (k ∷ ks) = pick (ltb k 64) (withBit (bitsOf ks) k) (bitsOf ks)
 
 -- a cell for each of the 256 function IDs
 unfoldable pub tableOf : (ℕ → ℕ) → List ℕ
-tableOf f = cells 256 f
+tableOf f = rowOf 256 f
 
 -- what is kept of the pool with its base at b; of each of the 256 function IDs, the trigger and the states
 unfoldable pub keptAt : List ℕ → List ℕ → ℕ → Profile
 keptAt s ps b =
     record {
-      master = numberAt 8 s (b + 4);
-      mask = numberAt 8 s (b + 12);
-      version = labelAt s (b + 27) (getD s (b + 24) 0);
-      configuration = labelAt s (b + 27 + getD s (b + 24) 0) (getD s (b + 25) 0);
+      master = baseAt s b .master;
+      mask = baseAt s b .mask;
+      version = versionLabel s b;
+      configuration = configurationLabel s b;
       trigger = tableOf (triggerIn s ps (functionsOf s b));
       states = tableOf (λ id. bitsOf (statesIn s ps (functionsOf s b) id));
     }
 
-unfoldable pub keptOf : List ℕ → Profile
-keptOf s = keptAt s (placesFrom s 0) (objectOf s (placesFrom s 0) 0 0)
+unfoldable pub keptOfPool : List ℕ → Profile
+keptOfPool s = keptAt s (placesFrom s 0) (objectOf s (placesFrom s 0) baseType 0)
 
 unfoldable pub blankProfile : Profile
 blankProfile = record { master = 0; mask = 0; version = blank; configuration = blank; trigger = replicate 256 0; states = replicate 256 0 }
 
 -- of a refused pool nothing is kept
 unfoldable pub profileOf : List ℕ → Profile
-profileOf s = pick (eqb (verdictOf s .code) 0) (keptOf s) blankProfile
+profileOf s = pick (eqb (verdictOf s .code) 0x00) (keptOfPool s) blankProfile
 
 -- ---- what a profile says of a function and a state, and that it says what the lists say
 
@@ -75,6 +67,6 @@ abbrev pub hasState : Profile → ℕ → ℕ → Bool
 hasState p id state = hasBit (getD (p .states) id 0) state
 
 pub record Says (s : List ℕ) (p : Profile) : Type 0 where
-  pub triggers : (id : ℕ) → id < 256 → trigger p id ≡ triggerIn s (placesFrom s 0) (functionsOf s (objectOf s (placesFrom s 0) 0 0)) id
+  pub triggers : (id : ℕ) → id < 256 → trigger p id ≡ triggerIn s (placesFrom s 0) (functionsOf s (objectOf s (placesFrom s 0) baseType 0)) id
   pub states :
-      (id state : ℕ) → id < 256 → state < 64 → hasState p id state ≡ isIn state (statesIn s (placesFrom s 0) (functionsOf s (objectOf s (placesFrom s 0) 0 0)) id)
+      (id state : ℕ) → id < 256 → state < 64 → hasState p id state ≡ isIn state (statesIn s (placesFrom s 0) (functionsOf s (objectOf s (placesFrom s 0) baseType 0)) id)

@@ -3,19 +3,26 @@ ghost use mathlib.Core.Path.{_≡_};
 ghost use mathlib.Core.List.{map};
 ghost use Prim.Native.Nat.{_+_, _≤_, _<_};
 ghost use lib.ListN.{length, take};
-ghost use Rattle.pool.specs.Fields.{numbersAt, statesOf};
+ghost use Rattle.pool.specs.Fields.{stateType, numbersAt, statesOf};
 ghost use Rattle.pool.specs.StageTwo.{idOf};
-ghost use Rattle.pool.specs.Index.{Indexed};
-ghost use Rattle.profile.specs.Profile.{bitsOf, tableOf, triggerIn, statesIn, keptAt, keptOf, blankProfile, profileOf, trigger, hasState, Says};
-use octets::byte_at;
+ghost use Rattle.pool.specs.Search.Index.{Indexed};
+ghost use Rattle.profile.specs.Profile.{bitsOf, tableOf, triggerIn, statesIn, keptAt, keptOfPool, blankProfile, profileOf, trigger, hasState, Says};
 use octets::has_bit;
 use octets::label::Label;
 use octets::label::blank;
-use octets::label::label_at;
 use octets::u16_at;
-use octets::u64_at;
 use octets::with_bit;
+use pool::BASE_FIXED;
+use pool::BASE_TYPE;
+use pool::FUNCTION_FIXED;
+use pool::FUNCTION_TYPE;
+use pool::STATE_TYPE;
+use pool::fields::base_at;
+use pool::fields::configuration_label;
 use pool::fields::id_at;
+use pool::fields::state_count;
+use pool::fields::trigger_at;
+use pool::fields::version_label;
 use pool::stage_two::chain_of;
 use pool::stage_two::find_object;
 use pool::stage_two::ids_of;
@@ -71,10 +78,10 @@ fn bits_of(ids: [u16; 255], count: usize) -> u64
 // The states of the function at a place.
 fn states_at(s: &[u8], ps: &[u16], chain: &[u16], p: usize) -> u64
     requires { ⌜ Indexed (now s) (now ps) (now chain) × (p < 65536) ⌝ }
-    ensures { λ r. ⌜ r ≡ bitsOf (map (idOf (now (s .entry)) (now (ps .entry)) 2) (statesOf (now (s .entry)) p)) ⌝ }
+    ensures { λ r. ⌜ r ≡ bitsOf (map (idOf (now (s .entry)) (now (ps .entry)) stateType) (statesOf (now (s .entry)) p)) ⌝ }
 {
-    let count = byte_at(s, p + 29) as usize;
-    let ids = ids_of(s, ps, chain, 2, p + 30, count);
+    let count = state_count(s, p) as usize;
+    let ids = ids_of(s, ps, chain, STATE_TYPE, p + FUNCTION_FIXED, count);
     bits_of(ids, count)
 }
 
@@ -95,9 +102,9 @@ fn tables_of(s: &[u8], ps: &[u16], chain: &[u16], at: usize, count: usize) -> Ta
     while 0 < k {
         k -= 1;
         let n = u16_at(s, at + 2 * k);
-        let p = find_object(s, ps, chain, 1, n);
+        let p = find_object(s, ps, chain, FUNCTION_TYPE, n);
         let id = id_at(s, p) as usize;
-        trigger[id] = byte_at(s, p + 4);
+        trigger[id] = trigger_at(s, p);
         states[id] = states_at(s, ps, chain, p);
     }
     Tables { trigger, states }
@@ -108,18 +115,16 @@ fn kept_at(s: &[u8], ps: &[u16], chain: &[u16], b: usize) -> Profile
     requires { ⌜ Indexed (now s) (now ps) (now chain) × (b < 65536) ⌝ }
     ensures { λ r. ⌜ r ≡ keptAt (now (s .entry)) (now (ps .entry)) b ⌝ }
 {
-    let n = byte_at(s, b + 24);
-    let m = byte_at(s, b + 25);
-    let o = byte_at(s, b + 26) as usize;
-    let second = b + 27 + n as usize;
-    let tables = tables_of(s, ps, chain, second + m as usize, o);
+    let base = base_at(s, b);
+    let at = b + BASE_FIXED + base.n as usize + base.m as usize;
+    let tables = tables_of(s, ps, chain, at, base.o as usize);
     let trigger = tables.trigger;
     let states = tables.states;
-    let version = label_at(s, b + 27, n);
-    let configuration = label_at(s, second, m);
+    let version = version_label(s, b);
+    let configuration = configuration_label(s, b);
     Profile {
-        master: u64_at(s, b + 4),
-        mask: u64_at(s, b + 12),
+        master: base.master,
+        mask: base.mask,
         version,
         configuration,
         trigger,
@@ -130,7 +135,7 @@ fn kept_at(s: &[u8], ps: &[u16], chain: &[u16], b: usize) -> Profile
 // What is kept of a pool that the check has taken.
 pub fn kept(pool: &[u8]) -> Profile
     requires { ⌜ length (now pool) ≤ 16384 ⌝ }
-    ensures { λ r. ⌜ r ≡ keptOf (now (pool .entry)) ⌝ }
+    ensures { λ r. ⌜ r ≡ keptOfPool (now (pool .entry)) ⌝ }
     ensures says { λ r. ⌜ Says (now (pool .entry)) r ⌝ }
 {
     let listed = list_places(pool);
@@ -139,7 +144,7 @@ pub fn kept(pool: &[u8]) -> Profile
     let ps = &places[..count];
     let index = chain_of(pool, ps);
     let chain = &index[..3072];
-    let b = find_object(pool, ps, chain, 0, 0);
+    let b = find_object(pool, ps, chain, BASE_TYPE, 0);
     kept_at(pool, ps, chain, b)
 }
 

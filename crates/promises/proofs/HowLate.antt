@@ -1,7 +1,5 @@
 -- How late a step can come, from when it leaves exactly.
--- Assumes nothing.
-use Prim.Native.Nat.{ℕ, _+_, _-_, _≤_}
-use mathlib.Core.List.{List}
+use Prim.Native.Nat.{_-_}
 use native.Mathlib.Omega.{arith}
 use Rattle.plays.specs.Promises as plays
 use Rattle.promises.specs.HowLate.{HowLate}

@@ -1,5 +1,4 @@
 -- The inspector's question: how late could a step come? A tick is a tenth of a second.
--- Assumes nothing: this is a statement.
 use Prim.Native.Nat.{ℕ, _+_, _≤_}
 use mathlib.Core.List.{List}
 use Rattle.master.specs.declared.Master.{Master}

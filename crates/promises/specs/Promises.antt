@@ -1,14 +1,12 @@
 -- All that is promised, in the order of the demands. Each part is proved in its crate; the call `promises` ensures them all, so that none can be left out.
--- Assumes nothing: this is a statement.
 use Rattle.events.specs.Promises as events
 use Rattle.objects.specs.RoundTrip.{RoundTrip}
 use Rattle.message.specs.Promises.{ComesBack, Refuses}
 use Rattle.recording.specs.Promises as recording
 use Rattle.history.specs.Promises as history
-use Rattle.playback.specs.Promises.{Verifies, Agrees, Keeps, Framing}
+use Rattle.playback.specs.Promises.{Verifies, Agrees, Changes, Framing}
 use Rattle.plays.specs.Promises as plays
-use Rattle.promises.specs.HowLate.{HowLate}
-use Rattle.promises.specs.Sample.{Sample}
+use Rattle.promises.specs.{HowLate.HowLate, Sample.Sample}
 
 pub record Promises : Type 0 where
   -- "1. No pool, message or order of calls makes it misbehave.": of every event in every state; with it "starts exactly when", and the starred cases
@@ -29,7 +27,7 @@ pub record Promises : Type 0 where
   -- "3. Number the accepted ticks of a playback from 1; ..": of every playback of the master, whatever calls come between
   pub playback : plays.Promises
   pub frames : Framing
-  pub state : Keeps
+  pub state : Changes
   pub how-late : HowLate
   -- a run that meets what they ask for
   pub sample : Sample

@@ -1,26 +1,25 @@
 -- A run that meets what the theorems ask for: a client is attached, a step of value 240 is recorded, the playback starts, and the step leaves.
--- Assumes nothing: these are statements.
 use Prim.Native.Nat.{_+_, _≤_}
 use mathlib.Core.Path.{_≡_}
 use mathlib.Core.List.{List, [], _∷_, _++_}
 use lib.ListN.{length, getD, replicate}
 use Rattle.sequence.specs.Sequence.{blankStep}
 use Rattle.events.specs.Events.{Event, tick, run, runFrom}
-use Rattle.events.specs.Examples.{recorded, playing, buffer}
+use Rattle.events.specs.Examples.{recordedRun, playingRun, frameBuffer}
 use Rattle.plays.specs.Plays.{Started, Lasts, ticksIn, LeftAt}
 
 abbrev pub one : List Event
-one = tick 0 buffer ∷ []
+one = tick 0 frameBuffer ∷ []
 
 abbrev pub sixteen : List Event
-sixteen = replicate 16 (tick 0 buffer)
+sixteen = replicate 16 (tick 0 frameBuffer)
 
 pub record Sample : Type 0 where
   -- a sequence has a step
-  pub value : getD (run recorded .sequence .steps) 0 blankStep .value ≡ 240
+  pub value : getD (run recordedRun .sequence .steps) 0 blankStep .value ≡ 240
   -- a start is accepted, and the playback lasts through a tick at which the step leaves
-  pub started : Started (run playing)
-  pub lasts : Lasts (run playing) one
-  pub leaves : LeftAt (runFrom (run playing) one) 0 1
+  pub started : Started (run playingRun)
+  pub lasts : Lasts (run playingRun) one
+  pub leaves : LeftAt (runFrom (run playingRun) one) 0 1
   -- and sixteen ticks come after that one
-  pub waits : 1 + 16 ≤ length (ticksIn (run playing) (one ++ sixteen))
+  pub waits : 1 + 16 ≤ length (ticksIn (run playingRun) (one ++ sixteen))

@@ -1,5 +1,4 @@
 -- The three ways that a message goes: to a step that is held, refused, or to a new step.
--- Assumes nothing.
 use Prim.Native.Nat.{ℕ, _+_, _<_}
 use mathlib.Core.Path.{_≡_, refl, sym, ap, subst, _∙_}
 use mathlib.Core.Bool.{Bool, true, false}
@@ -17,7 +16,7 @@ use Rattle.message.specs.declared.Execution.{Execution}
 use Rattle.arrays.specs.Arrays.{some, firstFrom}
 use Rattle.arrays.proofs.Fill.{length-pad}
 use Rattle.arrays.proofs.Every.{Found, first-is}
-use Rattle.client.specs.declared.Slot.{Slot}
+use Rattle.client.specs.declared.Client.{Client}
 use Rattle.recording.specs.State.{blankTaken}
 use Rattle.recording.specs.Indication.{heldOf, stepAt, isStepOf, placeOf, heardAgain, firstError, newStep, withNew, heardFirst, heardOf}
 use Rattle.recording.specs.Promises.{Sound}
@@ -36,11 +35,11 @@ module _ (r : Recording) (s : Sound r) where
   held-at i h = getD-take (r .count) (r .steps) i blankTaken h
 
   -- the steps held after a new one
-  pub held-new : (t : Taken) (client : Slot) → r .count < 64 → heldOf (withNew r t client) ≡ heldOf r ++ t ∷ []
+  pub held-new : (t : Taken) (client : Client) → r .count < 64 → heldOf (withNew r t client) ≡ heldOf r ++ t ∷ []
   unfolding withNew
   held-new t client h = let f = full in rw add-one (take-suc-set (r .steps) (r .count) t (omega arith))
 
-module _ (r : Recording) (slot : ℕ) (client : Slot) (complete : Bool) (e : Execution) where
+module _ (r : Recording) (slot : ℕ) (client : Client) (complete : Bool) (e : Execution) where
   abbrev pub error : ℕ
   error = firstError (client .profile) complete (r .count) e
 

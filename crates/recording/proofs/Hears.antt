@@ -1,5 +1,4 @@
 -- What a message does to each step and to the records, and that the same message again does nothing.
--- Assumes nothing.
 use Prim.Native.Nat.{ℕ, _+_, _<_}
 use mathlib.Core.Path.{_≡_, refl, sym, ap, subst, _∙_}
 use mathlib.Core.Bool.{Bool, true, false, _&&_, true≢false}
@@ -14,16 +13,16 @@ use Rattle.message.specs.declared.Execution.{Execution}
 use Rattle.message.specs.declared.Status.the-variants.{Done}
 use Rattle.arrays.specs.Arrays.{some, firstFrom}
 use Rattle.arrays.proofs.Every.{every-at, pairs-at, some-alike, first-alike, first-new, none-passes}
-use Rattle.client.specs.Records.{blankClient, clientOf}
-use Rattle.client.specs.declared.Slot.{Slot}
+use Rattle.client.specs.Records.{blankRecord, recordOf}
+use Rattle.client.specs.declared.Client.{Client}
 use Rattle.recording.specs.State.{blankTaken}
-use Rattle.recording.specs.Indication.{heldOf, stepAt, isOpen, isStepOf, placeOf, isSame, againError, finished, stepAfter, heardAgain, newStep, withNew, heardOf}
+use Rattle.recording.specs.Indication.{heldOf, stepAt, isOpen, isStepOf, placeOf, isSame, againError, doneWith, stepAfter, heardAgain, newStep, withNew, heardOf}
 use Rattle.recording.specs.Promises.{Sound, Hears, Begun, isTakenOf, startOf}
 use Rattle.recording.specs.declared.Taken.{Taken}
 use Rattle.recording.specs.declared.Recording.{Recording}
 use Rattle.recording.specs.declared.Heard.{Heard}
 use Rattle.recording.proofs.Errors.{early, room}
-use Rattle.recording.proofs.Records.{clients-there, clients-first}
+use Rattle.recording.proofs.Records.{after-there, after-first}
 use Rattle.recording.proofs.Cases.{full, held-count, held-at, held-new, error, refused, step, begun, goes-again, by-cases}
 use Rattle.recording.proofs.Steps.{both, finishing, finish-error, refused-same, stays-same, start-same, step-twice, error-twice, new-is-found, new-same, new-error, is-begun}
 use Rattle.recording.proofs.Sound.{starts}
@@ -84,7 +83,7 @@ module _ (r : Recording) (s : Sound r) (k : ℕ) (h : k < r .count) (e : Executi
   unfolding heardAgain
   alike = starts r s k h (stepAfter (stepAt r k) e) (start-same (stepAt r k) e)
 
-  same-records : heardAgain r k e .recording .clients ≡ r .clients
+  same-records : heardAgain r k e .recording .records ≡ r .records
   unfolding heardAgain
   same-records = refl
 
@@ -97,7 +96,7 @@ module _ (r : Recording) (s : Sound r) (k : ℕ) (h : k < r .count) (e : Executi
   unmoved a b = rw (refused-same (stepAt r k) e a b, set-getD (r .steps) k blankTaken)
 
   -- again
-  module _ (slot : ℕ) (client : Slot) (complete : Bool) (p : placeOf (r .steps) (r .count) slot (e .tan) ≡ k) where
+  module _ (slot : ℕ) (client : Client) (complete : Bool) (p : placeOf (r .steps) (r .count) slot (e .tan) ≡ k) where
     place-again : placeOf (heardAgain r k e .recording .steps) (heardAgain r k e .recording .count) slot (e .tan) ≡ k
     unfolding placeOf
     place-again = sym (first-alike startOf (heldOf r) (heldOf (heardAgain r k e .recording)) alike 64 (isStepOf slot (e .tan)) 0) ∙ p
@@ -122,7 +121,7 @@ module _ (r : Recording) (s : Sound r) (k : ℕ) (h : k < r .count) (e : Executi
 
 -- ---- a new step
 
-module _ (r : Recording) (s : Sound r) (slot : ℕ) (client : Slot) (complete : Bool) (e : Execution)
+module _ (r : Recording) (s : Sound r) (slot : ℕ) (client : Client) (complete : Bool) (e : Execution)
     (n : some (isStepOf slot (e .tan)) (heldOf r) ≡ false) (z : error r slot client complete e ≡ 0) where
   space : r .count < 64
   space = room (client .profile) complete (r .count) e z
@@ -140,13 +139,13 @@ module _ (r : Recording) (s : Sound r) (slot : ℕ) (client : Slot) (complete : 
   unfolding withNew
   new-others i h = getD-set-other (r .steps) (r .count) i first blankTaken (λ q. omega arith)
 
-  new-there : (x : ℕ) → x < 8 → some (isTakenOf x) (heldOf r) ≡ true → getD (new .clients) x blankClient ≡ getD (r .clients) x blankClient
+  new-there : (x : ℕ) → x < 8 → some (isTakenOf x) (heldOf r) ≡ true → getD (new .records) x blankRecord ≡ getD (r .records) x blankRecord
   unfolding withNew
-  new-there x h q = clients-there (r .clients) (first .step .slot) client (s .slots) x (s .recorded x h ∙ q)
+  new-there x h q = after-there (r .records) (first .step .slot) client (s .slots) x (s .recorded x h ∙ q)
 
-  new-first : slot < 8 → some (isTakenOf slot) (heldOf r) ≡ false → getD (new .clients) slot blankClient ≡ clientOf client
+  new-first : slot < 8 → some (isTakenOf slot) (heldOf r) ≡ false → getD (new .records) slot blankRecord ≡ recordOf client
   unfolding withNew newStep
-  new-first h q = clients-first (r .clients) slot client (s .slots) h (s .recorded slot h ∙ q)
+  new-first h q = after-first (r .records) slot client (s .slots) h (s .recorded slot h ∙ q)
 
   place-new : placeOf (new .steps) (new .count) slot (e .tan) ≡ r .count
   unfolding placeOf
@@ -176,7 +175,7 @@ module _ (r : Recording) (s : Sound r) (slot : ℕ) (client : Slot) (complete : 
 
 -- ---- a message
 
-module _ (r : Recording) (slot : ℕ) (client : Slot) (complete : Bool) (e : Execution) (s : Sound r) where
+module _ (r : Recording) (slot : ℕ) (client : Client) (complete : Bool) (e : Execution) (s : Sound r) where
   abbrev h : Heard
   h = heardOf r slot client complete e
 
@@ -200,7 +199,7 @@ module _ (r : Recording) (slot : ℕ) (client : Slot) (complete : Bool) (e : Exe
             (λ _ q _ _ z. absurd (eqb-false _ _ q z))
             (λ n z _ _. (step r slot client complete e, is-begun r slot client e, held r s slot client complete e n z));
         finishes = λ i a p m o d.
-            ways (λ x. (x .error ≡ 0) × (stepAt (x .recording) i ≡ finished (stepAt r i) (e .value)))
+            ways (λ x. (x .error ≡ 0) × (stepAt (x .recording) i ≡ doneWith (stepAt r i) (e .value)))
             (λ k b _ q. finishes i a p m o d k b q)
             (λ n _ _. absurd (clash r s slot (e .tan) n i a p))
             (λ n _. absurd (clash r s slot (e .tan) n i a p));
@@ -220,12 +219,12 @@ module _ (r : Recording) (slot : ℕ) (client : Slot) (complete : Bool) (e : Exe
             (λ _ _ _. refl)
             (λ n z. ap startOf (new-others r s slot client complete e n z i a));
         records = λ x a p.
-            ways (λ y. getD (y .recording .clients) x blankClient ≡ getD (r .clients) x blankClient)
-            (λ k b _ q. ap (λ l. getD l x blankClient) (same-records r s k b e))
+            ways (λ y. getD (y .recording .records) x blankRecord ≡ getD (r .records) x blankRecord)
+            (λ k b _ q. ap (λ l. getD l x blankRecord) (same-records r s k b e))
             (λ _ _ _. refl)
             (λ n z. new-there r s slot client complete e n z x a p);
         record-first = λ a p.
-            ways (λ x. some (isTakenOf slot) (heldOf (x .recording)) ≡ true → getD (x .recording .clients) slot blankClient ≡ clientOf client)
+            ways (λ x. some (isTakenOf slot) (heldOf (x .recording)) ≡ true → getD (x .recording .records) slot blankRecord ≡ recordOf client)
             (λ k b _ q w. absurd (true≢false (sym w ∙ sym (some-alike startOf (heldOf r) (heldOf (heardAgain r k e .recording)) (alike r s k b e) (isTakenOf slot)) ∙ p)))
             (λ _ _ _ w. absurd (true≢false (sym w ∙ p)))
             (λ n z _. new-first r s slot client complete e n z a p);
@@ -243,7 +242,7 @@ module _ (r : Recording) (slot : ℕ) (client : Slot) (complete : Bool) (e : Exe
     where
       finishes : (i : ℕ) → i < r .count → isIt (stepAt r i) ≡ true → isSame (stepAt r i) e ≡ true → isOpen (stepAt r i) ≡ true → e .status ≡ Done
           → (k : ℕ) → k < r .count → isIt (stepAt r k) ≡ true
-          → (heardAgain r k e .error ≡ 0) × (stepAt (heardAgain r k e .recording) i ≡ finished (stepAt r i) (e .value))
+          → (heardAgain r k e .error ≡ 0) × (stepAt (heardAgain r k e .recording) i ≡ doneWith (stepAt r i) (e .value))
       finishes i a p m o d k b q =
           let z = only r s slot (e .tan) i k a b p q in
           let y : (isSame (stepAt r i) e && isOpen (stepAt r i)) ≡ true = rw (m, o) in (

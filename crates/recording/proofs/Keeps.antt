@@ -1,5 +1,4 @@
 -- What is kept at the end: the steps that stay, and the records of their clients.
--- Assumes nothing.
 use Prim.Native.Nat.{ℕ, zero, suc, _+_, _≤_, _<_}
 use mathlib.Core.Path.{_≡_, refl, sym, ap, subst, _∙_}
 use mathlib.Core.Bool.{Bool, true, false, true≢false}
@@ -9,17 +8,17 @@ use lib.ListN.{length, getD, length-map, getD-replicate}
 use borrow.Author.Tests.{ne-eqb}
 use Rattle.octets.specs.Pick.{pick}
 use Rattle.arrays.specs.Arrays.{some, those, padTo}
-use Rattle.arrays.specs.Every.{Pairs}
+use Rattle.arrays.specs.Every.{Every, EveryTwo}
 use Rattle.arrays.proofs.Fill.{pad-none}
 use Rattle.arrays.proofs.Pad.{pad-take}
-use Rattle.arrays.proofs.Every.{pairs-map, pairs-those, some-map, those-none, those-some, none-those}
-use Rattle.client.specs.Records.{isUsed, blankClient}
-use Rattle.client.specs.declared.Client.{Client}
+use Rattle.arrays.proofs.Every.{every-map, every-those, pairs-map, pairs-those, some-map, those-none, those-some, none-those}
+use Rattle.client.specs.Records.{isUsed, blankRecord}
+use Rattle.client.specs.declared.ClientRecord.{ClientRecord}
 use Rattle.sequence.specs.Sequence.{blankStep, blankSequence, stepsOf}
 use Rattle.sequence.specs.declared.Step.{Step}
 use Rattle.sequence.specs.declared.Sequence.{Sequence}
 use Rattle.recording.specs.Indication.{heldOf}
-use Rattle.recording.specs.Kept.{stays, stepIn, stayed, isOf, recordOf, recordsFrom, sequenceOf, keptOf}
+use Rattle.recording.specs.Kept.{stays, stepIn, stayed, isOf, recordKept, recordsFrom, sequenceOf, keptSequence}
 use Rattle.recording.specs.Promises.{Sound, SoundSequence, Keeps, InOrder, isTakenOf}
 use Rattle.recording.specs.declared.Recording.{Recording}
 use Rattle.recording.proofs.Stayed.{stayed-fits}
@@ -29,26 +28,26 @@ use Rattle.recording.proofs.Sound.{unused}
 -- ---- the records
 
 module _ (l : List Step) where
-  pub records-length : (k : ℕ) (clients : List Client) → length (recordsFrom l k clients) ≡ length clients
+  pub records-length : (k : ℕ) (records : List ClientRecord) → length (recordsFrom l k records) ≡ length records
   records-length k [] = refl
-  records-length k (c ∷ clients) = ap suc (records-length (suc k) clients)
+  records-length k (c ∷ records) = ap suc (records-length (suc k) records)
 
-  records-from : (k i : ℕ) (clients : List Client) (d : Client) → i < length clients → getD (recordsFrom l k clients) i d ≡ recordOf l (k + i) (getD clients i d)
+  records-from : (k i : ℕ) (records : List ClientRecord) (d : ClientRecord) → i < length records → getD (recordsFrom l k records) i d ≡ recordKept l (k + i) (getD records i d)
   records-from k i [] d h = absurd (omega arith)
-  records-from k zero (c ∷ clients) d h = let z : k ≡ k + 0 = omega arith in ap (λ (x : ℕ). recordOf l x c) z
-  records-from k (suc i) (c ∷ clients) d h =
+  records-from k zero (c ∷ records) d h = let z : k ≡ k + 0 = omega arith in ap (λ (x : ℕ). recordKept l x c) z
+  records-from k (suc i) (c ∷ records) d h =
       let z : suc k + i ≡ k + suc i = omega arith in
-      records-from (suc k) i clients d (omega arith) ∙ ap (λ (x : ℕ). recordOf l x (getD clients i d)) z
+      records-from (suc k) i records d (omega arith) ∙ ap (λ (x : ℕ). recordKept l x (getD records i d)) z
 
-  pub records-at : (i : ℕ) (clients : List Client) (d : Client) → i < length clients → getD (recordsFrom l 0 clients) i d ≡ recordOf l i (getD clients i d)
-  records-at i clients d h = let z : 0 + i ≡ i = omega arith in records-from 0 i clients d h ∙ ap (λ (x : ℕ). recordOf l x (getD clients i d)) z
+  pub records-at : (i : ℕ) (records : List ClientRecord) (d : ClientRecord) → i < length records → getD (recordsFrom l 0 records) i d ≡ recordKept l i (getD records i d)
+  records-at i records d h = let z : 0 + i ≡ i = omega arith in records-from 0 i records d h ∙ ap (λ (x : ℕ). recordKept l x (getD records i d)) z
 
-  has : (slot : ℕ) (c : Client) → some (isOf slot) l ≡ true → recordOf l slot c ≡ c
-  unfolding pick recordOf
+  has : (slot : ℕ) (c : ClientRecord) → some (isOf slot) l ≡ true → recordKept l slot c ≡ c
+  unfolding pick recordKept
   has slot c q = rw q
 
-  has-not : (slot : ℕ) (c : Client) → some (isOf slot) l ≡ false → recordOf l slot c ≡ blankClient
-  unfolding pick recordOf
+  has-not : (slot : ℕ) (c : ClientRecord) → some (isOf slot) l ≡ false → recordKept l slot c ≡ blankRecord
+  unfolding pick recordKept
   has-not slot c q = rw q
 
 -- ---- the sequence
@@ -60,21 +59,22 @@ sound-none =
       few = omega arith;
       blank = pad-none blankStep 64;
       ordered = tt;
+      within = tt;
       slots = refl;
-      recorded = λ slot h. rw (getD-replicate 8 slot blankClient blankClient h) unused;
-      unrecorded = λ slot h _. getD-replicate 8 slot blankClient blankClient h;
+      recorded = λ slot h. rw (getD-replicate 8 slot blankRecord blankRecord h) unused;
+      unrecorded = λ slot h _. getD-replicate 8 slot blankRecord blankRecord h;
     }
 
 module _ (r : Recording) (old : Sequence) (s : Sound r) where
   abbrev kept : List Step
   kept = stayed (heldOf r)
 
-  keeps-none : some stays (heldOf r) ≡ false → keptOf r old ≡ old
-  unfolding pick keptOf
+  keeps-none : some stays (heldOf r) ≡ false → keptSequence r old ≡ old
+  unfolding pick keptSequence
   keeps-none n = rw (those-none stays (heldOf r) n)
 
-  keeps-some : some stays (heldOf r) ≡ true → keptOf r old ≡ sequenceOf kept (r .clients)
-  unfolding pick keptOf
+  keeps-some : some stays (heldOf r) ≡ true → keptSequence r old ≡ sequenceOf kept (r .records)
+  unfolding pick keptSequence
   keeps-some n =
       let a = those-some stays (heldOf r) n in
       let b = length-map (those stays (heldOf r)) stepIn in
@@ -83,7 +83,7 @@ module _ (r : Recording) (old : Sequence) (s : Sound r) where
   fits : length kept ≤ 64
   fits = stayed-fits (r .steps) (r .count) (full r s)
 
-  kept-steps : stepsOf (sequenceOf kept (r .clients)) ≡ kept
+  kept-steps : stepsOf (sequenceOf kept (r .records)) ≡ kept
   unfolding stepsOf
   kept-steps = pad-take blankStep 64 kept fits
 
@@ -92,35 +92,36 @@ module _ (r : Recording) (old : Sequence) (s : Sound r) where
   none-kept slot n = some-map stepIn (isOf slot) (those stays (heldOf r)) ∙ none-those (isTakenOf slot) stays (heldOf r) n
 
   recorded : (slot : ℕ) → slot < 8 → (b : Bool) → some (isOf slot) kept ≡ b → (c : Bool) → some (isTakenOf slot) (heldOf r) ≡ c
-      → isUsed (recordOf kept slot (getD (r .clients) slot blankClient)) ≡ b
-  recorded slot h true q true p = rw (has kept slot (getD (r .clients) slot blankClient) q) (s .recorded slot h ∙ p)
+      → isUsed (recordKept kept slot (getD (r .records) slot blankRecord)) ≡ b
+  recorded slot h true q true p = rw (has kept slot (getD (r .records) slot blankRecord) q) (s .recorded slot h ∙ p)
   recorded slot h true q false p = absurd (true≢false (sym q ∙ none-kept slot p))
-  recorded slot h false q c p = rw (has-not kept slot (getD (r .clients) slot blankClient) q) unused
+  recorded slot h false q c p = rw (has-not kept slot (getD (r .records) slot blankRecord) q) unused
 
-  at : (slot : ℕ) → slot < 8 → getD (recordsFrom kept 0 (r .clients)) slot blankClient ≡ recordOf kept slot (getD (r .clients) slot blankClient)
-  at slot h = let n = s .slots in records-at kept slot (r .clients) blankClient (omega arith)
+  at : (slot : ℕ) → slot < 8 → getD (recordsFrom kept 0 (r .records)) slot blankRecord ≡ recordKept kept slot (getD (r .records) slot blankRecord)
+  at slot h = let n = s .slots in records-at kept slot (r .records) blankRecord (omega arith)
 
-  sound-sequence : SoundSequence (sequenceOf kept (r .clients))
+  sound-sequence : SoundSequence (sequenceOf kept (r .records))
   sound-sequence =
       record {
         few = fits;
         blank = ap (padTo blankStep 64) (sym kept-steps);
-        ordered = subst (Pairs InOrder) (sym kept-steps) (pairs-map stepIn InOrder (those stays (heldOf r)) (pairs-those _ stays (heldOf r) (s .ordered)));
-        slots = records-length kept 0 (r .clients) ∙ s .slots;
+        ordered = subst (EveryTwo InOrder) (sym kept-steps) (pairs-map stepIn InOrder (those stays (heldOf r)) (pairs-those _ stays (heldOf r) (s .ordered)));
+        within = subst (Every (λ x. x .slot < 8)) (sym kept-steps) (every-map stepIn (λ x. x .slot < 8) (those stays (heldOf r)) (every-those _ stays (heldOf r) (s .within)));
+        slots = records-length kept 0 (r .records) ∙ s .slots;
         recorded = λ slot h.
             ap isUsed (at slot h) ∙ recorded slot h (some (isOf slot) kept) refl (some (isTakenOf slot) (heldOf r)) refl ∙ ap (some (isOf slot)) (sym kept-steps);
-        unrecorded = λ slot h q. at slot h ∙ has-not kept slot (getD (r .clients) slot blankClient) (ap (some (isOf slot)) (sym kept-steps) ∙ q);
+        unrecorded = λ slot h q. at slot h ∙ has-not kept slot (getD (r .records) slot blankRecord) (ap (some (isOf slot)) (sym kept-steps) ∙ q);
       }
 
-  pub sound-kept : SoundSequence old → SoundSequence (keptOf r old)
+  pub sound-kept : SoundSequence old → SoundSequence (keptSequence r old)
   sound-kept o = go (some stays (heldOf r)) refl
     where
-      go : (b : Bool) → some stays (heldOf r) ≡ b → SoundSequence (keptOf r old)
+      go : (b : Bool) → some stays (heldOf r) ≡ b → SoundSequence (keptSequence r old)
       go true n = subst SoundSequence (sym (keeps-some n)) sound-sequence
       go false n = subst SoundSequence (sym (keeps-none n)) o
 
-  kept-record : (slot : ℕ) (c : Client) → recordOf kept slot c ≡ pick (some (isOf slot) kept) c blankClient
-  unfolding recordOf
+  kept-record : (slot : ℕ) (c : ClientRecord) → recordKept kept slot c ≡ pick (some (isOf slot) kept) c blankRecord
+  unfolding recordKept
   kept-record slot c = refl
 
   pub keeps : Keeps r old
@@ -128,5 +129,5 @@ module _ (r : Recording) (old : Sequence) (s : Sound r) where
       record {
         steps = λ n. ap stepsOf (keeps-some n) ∙ kept-steps;
         none = keeps-none;
-        records = λ slot h n. ap (λ (q : Sequence). getD (q .clients) slot blankClient) (keeps-some n) ∙ at slot h ∙ kept-record slot (getD (r .clients) slot blankClient);
+        records = λ slot h n. ap (λ (q : Sequence). getD (q .records) slot blankRecord) (keeps-some n) ∙ at slot h ∙ kept-record slot (getD (r .records) slot blankRecord);
       }

@@ -1,5 +1,4 @@
 -- A loop that copies the steps that stay: what it has copied when it has looked at i steps.
--- Assumes nothing.
 use Prim.Native.Nat.{ℕ, _+_, _≤_, _<_}
 use mathlib.Core.Path.{_≡_, sym, ap, _∙_}
 use mathlib.Core.Bool.{true, false, cond}

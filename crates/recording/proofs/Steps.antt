@@ -1,5 +1,4 @@
 -- A step after a message of it: what changes, and that the same message again changes nothing.
--- Assumes nothing.
 use Prim.Native.Nat.{ℕ}
 use mathlib.Core.Path.{_≡_, refl, sym, ap, subst, _∙_}
 use mathlib.Core.Bool.{Bool, true, false, not, _&&_, _||_, true≢false, and-false}
@@ -7,13 +6,13 @@ use lib.Dec.{eqb}
 use borrow.Author.Tests.{eq-eqb, eqb-true}
 use Rattle.octets.specs.Pick.{pick}
 use Rattle.profile.specs.Profile.{trigger}
-use Rattle.message.specs.Fields.{numberOf}
+use Rattle.message.specs.Fields.{statusNumber}
 use Rattle.message.specs.declared.Execution.{Execution}
 use Rattle.message.specs.declared.Status.{Status}
 use Rattle.message.specs.declared.Status.the-variants.{AtOnce, Started, Done, Failed}
-use Rattle.client.specs.declared.Slot.{Slot}
+use Rattle.client.specs.declared.Client.{Client}
 use Rattle.sequence.specs.Sequence.{byDistance}
-use Rattle.recording.specs.Indication.{status, isOpen, isStepOf, isSame, againError, finished, broken, stepAfter, newStep, firstValue, opened}
+use Rattle.recording.specs.Indication.{status, isOpen, isStepOf, isSame, againError, doneWith, broken, stepAfter, newStep, firstValue, opened}
 use Rattle.recording.specs.Kept.{stays}
 use Rattle.recording.specs.Promises.{startOf, countOf, Begun}
 use Rattle.recording.specs.declared.Taken.{Taken}
@@ -44,7 +43,7 @@ module _ (t : Taken) (e : Execution) where
   unfolding pick stepAfter
   idle-started z = rw z (same (not (isSame t e && isOpen t)) t)
 
-  pub finishing : (isSame t e && isOpen t) ≡ true → e .status ≡ Done → stepAfter t e ≡ finished t (e .value)
+  pub finishing : (isSame t e && isOpen t) ≡ true → e .status ≡ Done → stepAfter t e ≡ doneWith t (e .value)
   unfolding pick stepAfter
   finishing q z = rw (q, z)
 
@@ -55,7 +54,7 @@ module _ (t : Taken) (e : Execution) where
   step-cases :
       (P : Taken → Type 0)
       → (stepAfter t e ≡ t → P t)
-      → ((isSame t e && isOpen t) ≡ true → e .status ≡ Done → P (finished t (e .value)))
+      → ((isSame t e && isOpen t) ≡ true → e .status ≡ Done → P (doneWith t (e .value)))
       → ((isSame t e && isOpen t) ≡ true → e .status ≡ Failed → P (broken t))
       → P (stepAfter t e)
   step-cases P f g h = go (isSame t e && isOpen t) refl (e .status) refl
@@ -85,7 +84,7 @@ module _ (t : Taken) (e : Execution) where
           go false q = q
 
   module _ (q : (isSame t e && isOpen t) ≡ true) where
-    answers-finish : e .status ≡ Done → (againError t e ≡ 0) × (againError (finished t (e .value)) e ≡ 0)
+    answers-finish : e .status ≡ Done → (againError t e ≡ 0) × (againError (doneWith t (e .value)) e ≡ 0)
     unfolding pick againError
     answers-finish z = let b = both (isSame t e) (isOpen t) q in (rw (b .0, z, eqb-true (t .status) opened (b .1)), rw (b .0, z))
 
@@ -107,7 +106,7 @@ module _ (t : Taken) (e : Execution) where
   pub step-twice : stepAfter (stepAfter t e) e ≡ stepAfter t e
   step-twice =
       step-cases t e (λ u. stepAfter u e ≡ u) (λ u. u)
-      (λ _ _. unchanged (finished t (e .value)) e (and-false (isSame t e)))
+      (λ _ _. unchanged (doneWith t (e .value)) e (and-false (isSame t e)))
       (λ _ _. unchanged (broken t) e (and-false (isSame t e)))
 
   pub error-twice : againError (stepAfter t e) e ≡ againError t e
@@ -166,7 +165,7 @@ module _ (r : Recording) (trigger : ℕ) (slot : ℕ) (e : Execution) where
     new-error Done z = absurd (true≢false (rw z at early))
     new-error Failed z = absurd (true≢false (rw z at early))
 
-module _ (r : Recording) (slot : ℕ) (client : Slot) (e : Execution) where
+module _ (r : Recording) (slot : ℕ) (client : Client) (e : Execution) where
   value-at-once : e .status ≡ AtOnce → firstValue (status e) (e .value) ≡ e .value
   unfolding pick firstValue
   value-at-once z = rw z
@@ -186,8 +185,8 @@ module _ (r : Recording) (slot : ℕ) (client : Slot) (e : Execution) where
         function = refl;
         state = refl;
         tan = refl;
-        atOnce = λ z. (ap numberOf z, value-at-once z);
-        started = λ z. (ap numberOf z, value-started z);
+        atOnce = λ z. (ap statusNumber z, value-at-once z);
+        started = λ z. (ap statusNumber z, value-started z);
         inTicks = in-ticks r (trigger (client .profile) (e .function)) slot e;
         inMillimetres = in-millimetres r (trigger (client .profile) (e .function)) slot e;
       }

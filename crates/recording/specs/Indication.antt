@@ -1,24 +1,19 @@
--- 01, "Recording": a tick, and what an E.4 that counts does. A step that is held has the status 0 one-shot, 1 open, 2 done; any other number is failed.
--- Assumes nothing: these are definitions.
+-- 01, "Recording": a tick, and what an E.4 that counts does.
 use Prim.Native.Nat.{ℕ, _+_}
 use mathlib.Core.Bool.{Bool, not, _&&_, _||_}
 use mathlib.Core.List.{List}
 use lib.Dec.{eqb, leb, ltb}
 use lib.ListN.{take, getD, set}
 use Rattle.octets.specs.Pick.{pick}
-use Rattle.profile.specs.Profile.{trigger, hasState}
-use Rattle.profile.specs.declared.Profile.{Profile}
-use Rattle.message.specs.Fields.{numberOf}
-use Rattle.message.specs.declared.Execution.{Execution}
+use Rattle.profile.specs.{Profile.trigger, Profile.hasState, declared.Profile.Profile}
+use Rattle.message.specs.{Fields.statusNumber, declared.Execution.Execution}
 use Rattle.arrays.specs.Arrays.{some, firstFrom, more}
-use Rattle.client.specs.Records.{isUsed, blankClient, clientOf}
-use Rattle.client.specs.declared.Slot.{Slot}
-use Rattle.client.specs.declared.Client.{Client}
-use Rattle.recording.specs.State.{blankTaken}
-use Rattle.recording.specs.declared.Taken.{Taken}
-use Rattle.recording.specs.declared.Recording.{Recording}
-use Rattle.recording.specs.declared.Heard.{Heard}
+use Rattle.client.specs.{Clients.slotCount, declared.Client.Client, declared.ClientRecord.ClientRecord}
+use Rattle.client.specs.Records.{isUsed, blankRecord, recordOf}
+use Rattle.sequence.specs.Sequence.{mostSteps}
+use Rattle.recording.specs.{State.blankTaken, declared.Taken.Taken, declared.Recording.Recording, declared.Heard.Heard}
 
+-- the status of a step that is held; a number that is not here is failed
 abbrev pub oneShot : ℕ
 oneShot = 0
 
@@ -33,12 +28,12 @@ failed = 3
 
 -- the status of an E.4, as its two bits
 abbrev pub status : Execution → ℕ
-status e = numberOf (e .status)
+status e = statusNumber (e .status)
 
 -- "A tick is 100 ms and brings the millimetres driven"
-unfoldable pub countedOf : Recording → ℕ → Recording
-countedOf r mm =
-    record { ticks = more (r .ticks) 1; distance = more (r .distance) mm; count = r .count; steps = r .steps; clients = r .clients }
+unfoldable pub countedRecording : Recording → ℕ → Recording
+countedRecording r mm =
+    record { ticks = more (r .ticks) 1; distance = more (r .distance) mm; count = r .count; steps = r .steps; records = r .records }
 
 -- "At most 64 steps, in order of start, failed ones counted until the end."
 abbrev pub heldOf : Recording → List Taken
@@ -62,7 +57,7 @@ isStepOf slot tan t = eqb (t .step .slot) slot && eqb (t .tan) tan
 
 -- the number of that step, and 64 where none is held
 unfoldable pub placeOf : List Taken → ℕ → ℕ → ℕ → ℕ
-placeOf steps count slot tan = firstFrom 64 (isStepOf slot tan) 0 (take count steps)
+placeOf steps count slot tan = firstFrom mostSteps (isStepOf slot tan) 0 (take count steps)
 
 -- ---- "Found"
 
@@ -90,8 +85,8 @@ againError t e =
     0x00))
 
 -- "done, this message's value kept"
-abbrev pub finished : Taken → ℕ → Taken
-finished t value =
+abbrev pub doneWith : Taken → ℕ → Taken
+doneWith t value =
     record {
       step = record {
         slot = t .step .slot;
@@ -113,13 +108,13 @@ broken t = record { step = t .step; tan = t .tan; status = failed }
 unfoldable pub stepAfter : Taken → Execution → Taken
 stepAfter t e =
     pick (not (isSame t e && isOpen t)) t
-    (pick (eqb (status e) 0b10) (finished t (e .value))
+    (pick (eqb (status e) 0b10) (doneWith t (e .value))
     (pick (eqb (status e) 0b11) (broken t)
     t))
 
 abbrev pub withStep : Recording → ℕ → Taken → Recording
 withStep r i t =
-    record { ticks = r .ticks; distance = r .distance; count = r .count; steps = set (r .steps) i t; clients = r .clients }
+    record { ticks = r .ticks; distance = r .distance; count = r .count; steps = set (r .steps) i t; records = r .records }
 
 unfoldable pub heardAgain : Recording → ℕ → Execution → Heard
 heardAgain r i e = record { error = againError (stepAt r i) e; recording = withStep r i (stepAfter (stepAt r i) e) }
@@ -130,20 +125,24 @@ heardAgain r i e = record { error = againError (stepAt r i) e; recording = withS
 abbrev pub isKnown : Profile → Execution → Bool
 isKnown p e = ltb (e .state) 64 && hasState p (e .function) (e .state)
 
-unfoldable pub firstError : Profile → Bool → ℕ → Execution → ℕ
-firstError p complete count e =
+-- by the function's trigger, and whether the state is known
+unfoldable pub errorBy : ℕ → Bool → Bool → ℕ → ℕ → ℕ
+errorBy trigger known complete count s =
     -- "01 unknown function"
-    pick (eqb (trigger p (e .function)) 0) 0x01
+    pick (eqb trigger 0) 0x01
     -- "02 unknown state"
-    (pick (not (isKnown p e)) 0x02
+    (pick (not known) 0x02
     -- "03 if status is 10 or 11"
-    (pick (eqb (status e) 0b10 || eqb (status e) 0b11) 0x03
+    (pick (eqb s 0b10 || eqb s 0b11) 0x03
     -- "FF in record complete"
     (pick complete 0xFF
     -- "04 if 64 are held"
-    (pick (leb 64 count) 0x04
+    (pick (leb mostSteps count) 0x04
     -- "else a new step, answered 00"
     0x00))))
+
+unfoldable pub firstError : Profile → Bool → ℕ → Execution → ℕ
+firstError p complete count e = errorBy (trigger p (e .function)) (isKnown p e) complete count (status e)
 
 -- "The mark is ticks since the start, or millimetres if the preferred trigger is 2 in the pool then loaded"
 abbrev pub markOf : Recording → ℕ → ℕ
@@ -170,24 +169,24 @@ newStep r trigger slot e =
     }
 
 -- "NAME, master NAME and both labels are kept with each client as its first step is stored"
-unfoldable pub clientsAfter : List Client → ℕ → Slot → List Client
-clientsAfter clients slot client =
-    pick (leb 8 slot) clients
-    (pick (isUsed (getD clients slot blankClient)) clients
-    (set clients slot (clientOf client)))
+unfoldable pub recordsAfter : List ClientRecord → ℕ → Client → List ClientRecord
+recordsAfter records slot client =
+    pick (leb slotCount slot) records
+    (pick (isUsed (getD records slot blankRecord)) records
+    (set records slot (recordOf client)))
 
 -- after the others, "in order of start"
-unfoldable pub withNew : Recording → Taken → Slot → Recording
+unfoldable pub withNew : Recording → Taken → Client → Recording
 withNew r t client =
     record {
       ticks = r .ticks;
       distance = r .distance;
       count = r .count + 1;
       steps = set (r .steps) (r .count) t;
-      clients = clientsAfter (r .clients) (t .step .slot) client;
+      records = recordsAfter (r .records) (t .step .slot) client;
     }
 
-unfoldable pub heardFirst : Recording → ℕ → Slot → Bool → Execution → Heard
+unfoldable pub heardFirst : Recording → ℕ → Client → Bool → Execution → Heard
 heardFirst r slot client complete e =
     let error = firstError (client .profile) complete (r .count) e in
     pick (eqb error 0x00)
@@ -196,7 +195,7 @@ heardFirst r slot client complete e =
 
 -- ---- the whole rule: found, or not found
 
-unfoldable pub heardOf : Recording → ℕ → Slot → Bool → Execution → Heard
+unfoldable pub heardOf : Recording → ℕ → Client → Bool → Execution → Heard
 heardOf r slot client complete e =
     let i = placeOf (r .steps) (r .count) slot (e .tan) in
-    pick (ltb i 64) (heardAgain r i e) (heardFirst r slot client complete e)
+    pick (ltb i mostSteps) (heardAgain r i e) (heardFirst r slot client complete e)

@@ -1,28 +1,22 @@
 -- What holds of the definitions that the contracts cite: what is always so of a recording, what a message does to each step, what is kept at the end.
--- Assumes nothing: these are statements.
 use Prim.Native.Nat.{ℕ, _≤_, _<_}
 use mathlib.Core.Path.{_≡_}
 use mathlib.Core.Bool.{Bool, true, false}
-use mathlib.Core.List.{[], _∷_, _++_}
+use mathlib.Core.List.{List, [], _∷_, _++_}
 use lib.Dec.{eqb}
-use lib.ListN.{length, getD}
+use lib.ListN.{length, getD, set}
 use Rattle.octets.specs.Pick.{pick}
 use Rattle.profile.specs.Profile.{trigger}
 use Rattle.message.specs.declared.Execution.{Execution}
 use Rattle.message.specs.declared.Status.the-variants.{AtOnce, Started, Done}
-use Rattle.arrays.specs.Arrays.{some, padTo}
-use Rattle.arrays.specs.Every.{Every, Pairs}
-use Rattle.client.specs.Records.{isUsed, blankClient, clientOf}
-use Rattle.client.specs.declared.Slot.{Slot}
-use Rattle.sequence.specs.Sequence.{blankStep, byDistance, blankSequence, stepsOf}
-use Rattle.sequence.specs.declared.Step.{Step}
-use Rattle.sequence.specs.declared.Sequence.{Sequence}
-use Rattle.recording.specs.State.{blankTaken, blankRecording}
-use Rattle.recording.specs.Indication.{oneShot, opened, isOpen, countedOf, heldOf, stepAt, isStepOf, isSame, finished, heardOf}
-use Rattle.recording.specs.Kept.{stays, stayed, isOf, keptOf}
-use Rattle.recording.specs.declared.Taken.{Taken}
-use Rattle.recording.specs.declared.Recording.{Recording}
-use Rattle.recording.specs.declared.Heard.{Heard}
+use Rattle.arrays.specs.{Arrays.some, Arrays.padTo, Every.Every, Every.EveryTwo}
+use Rattle.client.specs.{Clients.slotCount, declared.Client.Client, declared.ClientRecord.ClientRecord}
+use Rattle.client.specs.Records.{isUsed, blankRecord, recordOf}
+use Rattle.sequence.specs.Sequence.{mostSteps, blankStep, byDistance, blankSequence, stepsOf}
+use Rattle.sequence.specs.{declared.Step.Step, declared.Sequence.Sequence}
+use Rattle.recording.specs.{State.blankTaken, State.blankRecording, declared.Taken.Taken, declared.Recording.Recording, declared.Heard.Heard}
+use Rattle.recording.specs.Indication.{oneShot, opened, isOpen, countedRecording, heldOf, stepAt, isStepOf, isSame, doneWith, recordsAfter, heardOf}
+use Rattle.recording.specs.Kept.{stays, stayed, isOf, keptSequence}
 
 -- ---- what is always so
 
@@ -43,36 +37,44 @@ isTakenOf slot t = isOf slot (t .step)
 
 pub record Sound (r : Recording) : Type 0 where
   -- "At most 64 steps"; the cells after them are blank
-  pub few : r .count ≤ 64
-  pub blank : r .steps ≡ padTo blankTaken 64 (heldOf r)
+  pub few : r .count ≤ mostSteps
+  pub blank : r .steps ≡ padTo blankTaken mostSteps (heldOf r)
   -- "in order of start": no mark is ahead of what is counted, and no later step has a smaller mark
   pub ticks : r .ticks ≤ most
   pub distance : r .distance ≤ most
   pub passed : Every (λ t. t .step .mark ≤ countOf r (byDistance (t .step))) (heldOf r)
-  pub ordered : Pairs (λ a b. InOrder (a .step) (b .step)) (heldOf r)
+  pub ordered : EveryTwo (λ a b. InOrder (a .step) (b .step)) (heldOf r)
   -- a client's TAN names one step
-  pub single : Pairs (λ a b. isStepOf (b .step .slot) (b .tan) a ≡ false) (heldOf r)
+  pub single : EveryTwo (λ a b. isStepOf (b .step .slot) (b .tan) a ≡ false) (heldOf r)
+  -- each is a step of one of the eight slots
+  pub within : Every (λ t. t .step .slot < slotCount) (heldOf r)
   -- a client has its record from its first step on, and none before
-  pub slots : length (r .clients) ≡ 8
-  pub recorded : (slot : ℕ) → slot < 8 → isUsed (getD (r .clients) slot blankClient) ≡ some (isTakenOf slot) (heldOf r)
-  pub unrecorded : (slot : ℕ) → slot < 8 → some (isTakenOf slot) (heldOf r) ≡ false → getD (r .clients) slot blankClient ≡ blankClient
+  pub slots : length (r .records) ≡ slotCount
+  pub recorded : (slot : ℕ) → slot < slotCount → isUsed (getD (r .records) slot blankRecord) ≡ some (isTakenOf slot) (heldOf r)
+  pub unrecorded : (slot : ℕ) → slot < slotCount → some (isTakenOf slot) (heldOf r) ≡ false → getD (r .records) slot blankRecord ≡ blankRecord
 
 pub record SoundSequence (q : Sequence) : Type 0 where
-  pub few : q .count ≤ 64
-  pub blank : q .steps ≡ padTo blankStep 64 (stepsOf q)
-  pub ordered : Pairs InOrder (stepsOf q)
+  pub few : q .count ≤ mostSteps
+  pub blank : q .steps ≡ padTo blankStep mostSteps (stepsOf q)
+  pub ordered : EveryTwo InOrder (stepsOf q)
+  pub within : Every (λ s. s .slot < slotCount) (stepsOf q)
   -- the records are there for exactly the slots of which there is a step
-  pub slots : length (q .clients) ≡ 8
-  pub recorded : (slot : ℕ) → slot < 8 → isUsed (getD (q .clients) slot blankClient) ≡ some (isOf slot) (stepsOf q)
-  pub unrecorded : (slot : ℕ) → slot < 8 → some (isOf slot) (stepsOf q) ≡ false → getD (q .clients) slot blankClient ≡ blankClient
+  pub slots : length (q .records) ≡ slotCount
+  pub recorded : (slot : ℕ) → slot < slotCount → isUsed (getD (q .records) slot blankRecord) ≡ some (isOf slot) (stepsOf q)
+  pub unrecorded : (slot : ℕ) → slot < slotCount → some (isOf slot) (stepsOf q) ≡ false → getD (q .records) slot blankRecord ≡ blankRecord
 
 pub record Always : Type 0 where
   pub blank : Sound blankRecording
   pub none : SoundSequence blankSequence
-  pub counted : (r : Recording) (mm : ℕ) → Sound r → Sound (countedOf r mm)
+  pub counted : (r : Recording) (mm : ℕ) → Sound r → Sound (countedRecording r mm)
   pub heard :
-      (r : Recording) (slot : ℕ) (client : Slot) (complete : Bool) (e : Execution) → Sound r → Sound (heardOf r slot client complete e .recording)
-  pub kept : (r : Recording) (old : Sequence) → Sound r → SoundSequence old → SoundSequence (keptOf r old)
+      (r : Recording) (slot : ℕ) (client : Client) (complete : Bool) (e : Execution) → Sound r → slot < slotCount
+      → Sound (heardOf r slot client complete e .recording)
+  pub kept : (r : Recording) (old : Sequence) → Sound r → SoundSequence old → SoundSequence (keptSequence r old)
+  -- the bound that a step's slot is held against, which 01 does not have, never decides
+  pub bound :
+      (records : List ClientRecord) (slot : ℕ) (client : Client) → slot < slotCount
+      → recordsAfter records slot client ≡ pick (isUsed (getD records slot blankRecord)) records (set records slot (recordOf client))
 
 -- ---- what a message does to each step
 
@@ -93,7 +95,7 @@ startOf t =
     }
 
 -- the step that a message begins
-pub record Begun (r : Recording) (slot : ℕ) (client : Slot) (e : Execution) (t : Taken) : Type 0 where
+pub record Begun (r : Recording) (slot : ℕ) (client : Client) (e : Execution) (t : Taken) : Type 0 where
   pub sender : t .step .slot ≡ slot
   pub function : t .step .function ≡ e .function
   pub state : t .step .state ≡ e .state
@@ -103,7 +105,7 @@ pub record Begun (r : Recording) (slot : ℕ) (client : Slot) (e : Execution) (t
   pub inTicks : eqb (trigger (client .profile) (e .function)) 2 ≡ false → (byDistance (t .step) ≡ false) × (t .step .mark ≡ r .ticks)
   pub inMillimetres : eqb (trigger (client .profile) (e .function)) 2 ≡ true → (byDistance (t .step) ≡ true) × (t .step .mark ≡ r .distance)
 
-pub record Hears (r : Recording) (slot : ℕ) (client : Slot) (complete : Bool) (e : Execution) (h : Heard) : Type 0 where
+pub record Hears (r : Recording) (slot : ℕ) (client : Client) (complete : Bool) (e : Execution) (h : Heard) : Type 0 where
   -- a message of a step that is not held, answered 00: the step stands after the others, which stay as they are
   pub begins :
       some (isStepOf slot (e .tan)) (heldOf r) ≡ false → h .error ≡ 0
@@ -111,7 +113,7 @@ pub record Hears (r : Recording) (slot : ℕ) (client : Slot) (complete : Bool) 
   -- "10 (done, this message's value kept)": and all else is the same
   pub finishes :
       (i : ℕ) → i < r .count → isStepOf slot (e .tan) (stepAt r i) ≡ true → isSame (stepAt r i) e ≡ true → isOpen (stepAt r i) ≡ true → e .status ≡ Done
-      → (h .error ≡ 0) × (stepAt (h .recording) i ≡ finished (stepAt r i) (e .value))
+      → (h .error ≡ 0) × (stepAt (h .recording) i ≡ doneWith (stepAt r i) (e .value))
   -- no message changes a step of another client or TAN
   pub others : (i : ℕ) → i < r .count → isStepOf slot (e .tan) (stepAt r i) ≡ false → stepAt (h .recording) i ≡ stepAt r i
   -- no message changes a one-shot or done step
@@ -119,10 +121,10 @@ pub record Hears (r : Recording) (slot : ℕ) (client : Slot) (complete : Bool) 
   -- no message changes the slot, function, state, mark, kind of mark or TAN of a step
   pub lasting : (i : ℕ) → i < r .count → startOf (stepAt (h .recording) i) ≡ startOf (stepAt r i)
   -- "kept with each client as its first step is stored": and not changed after
-  pub records : (s : ℕ) → s < 8 → some (isTakenOf s) (heldOf r) ≡ true → getD (h .recording .clients) s blankClient ≡ getD (r .clients) s blankClient
+  pub records : (s : ℕ) → s < slotCount → some (isTakenOf s) (heldOf r) ≡ true → getD (h .recording .records) s blankRecord ≡ getD (r .records) s blankRecord
   pub record-first :
-      slot < 8 → some (isTakenOf slot) (heldOf r) ≡ false → some (isTakenOf slot) (heldOf (h .recording)) ≡ true
-      → getD (h .recording .clients) slot blankClient ≡ clientOf client
+      slot < slotCount → some (isTakenOf slot) (heldOf r) ≡ false → some (isTakenOf slot) (heldOf (h .recording)) ≡ true
+      → getD (h .recording .records) slot blankRecord ≡ recordOf client
   -- "only the changes named here are made": an answer other than 00 and FF changes nothing
   pub refuses : eqb (h .error) 0x00 ≡ false → eqb (h .error) 0xFF ≡ false → h .recording ≡ r
   -- the same message again changes nothing and gets the same answer: a repeated start is no second step
@@ -132,16 +134,16 @@ pub record Hears (r : Recording) (slot : ℕ) (client : Slot) (complete : Bool) 
 
 pub record Keeps (r : Recording) (old : Sequence) : Type 0 where
   -- exactly the one-shot and done steps, each with its value, in order
-  pub steps : some stays (heldOf r) ≡ true → stepsOf (keptOf r old) ≡ stayed (heldOf r)
-  pub none : some stays (heldOf r) ≡ false → keptOf r old ≡ old
+  pub steps : some stays (heldOf r) ≡ true → stepsOf (keptSequence r old) ≡ stayed (heldOf r)
+  pub none : some stays (heldOf r) ≡ false → keptSequence r old ≡ old
   -- "dropped if none of its steps stays", and kept as it was else
   pub records :
-      (slot : ℕ) → slot < 8 → some stays (heldOf r) ≡ true
-      → getD (keptOf r old .clients) slot blankClient ≡ pick (some (isOf slot) (stayed (heldOf r))) (getD (r .clients) slot blankClient) blankClient
+      (slot : ℕ) → slot < slotCount → some stays (heldOf r) ≡ true
+      → getD (keptSequence r old .records) slot blankRecord ≡ pick (some (isOf slot) (stayed (heldOf r))) (getD (r .records) slot blankRecord) blankRecord
 
 pub record Promises : Type 0 where
   pub always : Always
   pub hears :
-      (r : Recording) (slot : ℕ) (client : Slot) (complete : Bool) (e : Execution) → Sound r
+      (r : Recording) (slot : ℕ) (client : Client) (complete : Bool) (e : Execution) → Sound r
       → Hears r slot client complete e (heardOf r slot client complete e)
   pub keeps : (r : Recording) (old : Sequence) → Sound r → Keeps r old

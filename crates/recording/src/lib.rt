@@ -1,30 +1,38 @@
 // Recording: the steps taken so far, what an E.4 does, and what stays at the end.
 ghost use mathlib.Core.Path.{_≡_};
 ghost use Prim.Native.Nat.{_<_};
+ghost use mathlib.Core.Bool.{_&&_};
+ghost use lib.Dec.{ltb};
 ghost use lib.ListN.{take};
+ghost use Rattle.octets.specs.Pick.{pick};
+ghost use Rattle.octets.specs.Bits.{hasBit};
 ghost use Rattle.arrays.specs.Arrays.{some};
+ghost use Rattle.client.specs.Records.{blankRecord};
 ghost use Rattle.recording.specs.State.{blankTaken, blankRecording};
-ghost use Rattle.recording.specs.Indication.{countedOf, isOpen, hasOpen, isStepOf, placeOf, isSame, takes, againError, finished, stepAfter, heardAgain, isKnown, firstError, firstValue, newStep, clientsAfter, withNew, heardFirst, heardOf};
+ghost use Rattle.recording.specs.Indication.{countedRecording, isOpen, hasOpen, isStepOf, placeOf, isSame, takes, againError, doneWith, stepAfter, heardAgain, errorBy, firstValue, newStep, recordsAfter, withNew, heardFirst, heardOf};
 ghost use Rattle.recording.specs.Promises.{Promises};
-ghost use Rattle.recording.specs.Kept.{stays, stayed, stored, isOf, recordOf, recordsFrom, keptOf};
+ghost use Rattle.recording.specs.Kept.{stays, stayed, stored, HasSlots, recordsFrom, keptSequence};
 use arrays::at_most;
 use arrays::more;
 use client::Client;
-use client::Slot;
-use client::blank_client;
+use client::ClientRecord;
+use client::SLOTS;
+use client::blank_record;
 use message::Execution;
-use message::fields::number_of;
-use profile::Profile;
+use message::fields::status_number;
+use octets::has_bit;
+use octets::with_bit;
+use sequence::MOST_STEPS;
 use sequence::Sequence;
 use sequence::Step;
 use sequence::blank_step;
 
-// The status of a step that is held. Any other number is failed.
+// The status of a step that is held. A number that is not here is failed.
 pub const ONE_SHOT: u8 = 0;
 
-pub const OPEN: u8 = 1;
+pub const OPENED: u8 = 1;
 
-pub const DONE: u8 = 2;
+pub const STEP_DONE: u8 = 2;
 
 pub const FAILED: u8 = 3;
 
@@ -36,14 +44,14 @@ pub struct Taken {
     pub status: u8,
 }
 
-// ticks and distance are counted since the start. The first count of steps are held; clients stand by slot. Unused cells are blank.
+// ticks and distance are counted since the start. The first count of steps are held; records stand by slot. Unused cells are blank.
 #[repr(C)]
 pub struct Recording {
     pub ticks: u32,
     pub distance: u32,
     pub count: usize,
-    pub steps: [Taken; 64],
-    pub clients: [Client; 8],
+    pub steps: [Taken; MOST_STEPS],
+    pub records: [ClientRecord; SLOTS],
 }
 
 // The error of E.5, and the recording after the message.
@@ -55,40 +63,40 @@ pub struct Heard {
 // The steps that stay: the first count of steps.
 struct Kept {
     count: usize,
-    steps: [Step; 64],
+    steps: [Step; MOST_STEPS],
 }
 
 pub fn blank_recording() -> Recording
     ensures { λ r. ⌜ r ≡ blankRecording ⌝ }
 {
     let step = blank_step();
-    let client = blank_client();
+    let client = blank_record();
     let taken = Taken {
         step,
         tan: 0,
         status: 0,
     };
-    let steps = [taken; 64];
-    let clients = [client; 8];
+    let steps = [taken; MOST_STEPS];
+    let records = [client; SLOTS];
     Recording {
         ticks: 0,
         distance: 0,
         count: 0,
         steps,
-        clients,
+        records,
     }
 }
 
 fn is_open(taken: Taken) -> bool
     ensures { λ r. ⌜ r ≡ isOpen taken ⌝ }
 {
-    taken.status == OPEN
+    taken.status == OPENED
 }
 
-fn some_open(steps: [Taken; 64], count: usize) -> bool
+fn some_open(steps: [Taken; MOST_STEPS], count: usize) -> bool
     ensures { λ r. ⌜ r ≡ some isOpen (take count steps) ⌝ }
 {
-    let end = at_most(count, 64);
+    let end = at_most(count, MOST_STEPS);
     let mut i: usize = 0;
     while i < end {
         if is_open(steps[i]) {
@@ -106,10 +114,10 @@ fn is_step_of(taken: Taken, slot: u8, tan: u8) -> bool
 }
 
 // The number of this client's step with this TAN, 64 where none is held.
-fn find(steps: [Taken; 64], count: usize, slot: u8, tan: u8) -> usize
+fn find(steps: [Taken; MOST_STEPS], count: usize, slot: u8, tan: u8) -> usize
     ensures { λ r. ⌜ r ≡ placeOf steps count slot tan ⌝ }
 {
-    let end = at_most(count, 64);
+    let end = at_most(count, MOST_STEPS);
     let mut i: usize = 0;
     while i < end {
         if is_step_of(steps[i], slot, tan) {
@@ -117,7 +125,7 @@ fn find(steps: [Taken; 64], count: usize, slot: u8, tan: u8) -> usize
         }
         i += 1;
     }
-    64
+    MOST_STEPS
 }
 
 fn is_same(taken: Taken, e: Execution) -> bool
@@ -131,9 +139,9 @@ fn does_take(held: u8, s: u8) -> bool
     ensures { λ r. ⌜ r ≡ takes held s ⌝ }
 {
     ((held == ONE_SHOT) & (s == 0b00))
-        | ((held == OPEN) & ((s == 0b01) | (s == 0b10) | (s == 0b11)))
-        | ((held == DONE) & ((s == 0b01) | (s == 0b10)))
-        | ((DONE < held) & ((s == 0b01) | (s == 0b11)))
+        | ((held == OPENED) & ((s == 0b01) | (s == 0b10) | (s == 0b11)))
+        | ((held == STEP_DONE) & ((s == 0b01) | (s == 0b10)))
+        | ((STEP_DONE < held) & ((s == 0b01) | (s == 0b11)))
 }
 
 // The answer to a message of a step that is held.
@@ -141,7 +149,7 @@ fn again_error(taken: Taken, e: Execution) -> u8
     ensures { λ r. ⌜ r ≡ againError taken e ⌝ }
 {
     let bits = e.status;
-    let status = number_of(bits);
+    let status = status_number(bits);
     if !is_same(taken, e) {
         return 0x03;
     }
@@ -155,8 +163,8 @@ fn again_error(taken: Taken, e: Execution) -> u8
 }
 
 // The step, done with this value.
-fn finished(taken: Taken, value: u32) -> Taken
-    ensures { λ r. ⌜ r ≡ finished taken value ⌝ }
+fn done_with(taken: Taken, value: u32) -> Taken
+    ensures { λ r. ⌜ r ≡ doneWith taken value ⌝ }
 {
     let step = Step {
         slot: taken.step.slot,
@@ -169,7 +177,7 @@ fn finished(taken: Taken, value: u32) -> Taken
     Taken {
         step,
         tan: taken.tan,
-        status: DONE,
+        status: STEP_DONE,
     }
 }
 
@@ -178,13 +186,13 @@ fn step_after(taken: Taken, e: Execution) -> Taken
     ensures { λ r. ⌜ r ≡ stepAfter taken e ⌝ }
 {
     let bits = e.status;
-    let status = number_of(bits);
+    let status = status_number(bits);
     let mut after = taken;
     if !(is_same(taken, e) & is_open(taken)) {
         return taken;
     }
     if status == 0b10 {
-        return finished(taken, e.value);
+        return done_with(taken, e.value);
     }
     if status == 0b11 {
         after.status = FAILED;
@@ -193,26 +201,24 @@ fn step_after(taken: Taken, e: Execution) -> Taken
     taken
 }
 
-// Whether the loaded pool lists the function with this state.
-fn is_known(profile: Profile, e: Execution) -> bool
-    ensures { λ r. ⌜ r ≡ isKnown profile e ⌝ }
+// Whether the loaded pool lists the function with this state, by the function's states in it.
+fn is_known(states: u64, state: u8) -> bool
+    ensures { λ r. ⌜ r ≡ (ltb state 64 && hasBit states state) ⌝ }
 {
-    if e.state < 64 {
-        return profile.has_state(e.function, e.state);
+    if state < 64 {
+        return has_bit(states, state as u64);
     }
     false
 }
 
 // The answer to a message of a step that is not held.
-fn first_error(profile: Profile, complete: bool, count: usize, e: Execution) -> u8
-    ensures { λ r. ⌜ r ≡ firstError profile complete count e ⌝ }
+fn first_error(trigger: u8, known: bool, complete: bool, count: usize, status: u8) -> u8
+    ensures { λ r. ⌜ r ≡ errorBy trigger known complete count status ⌝ }
 {
-    let bits = e.status;
-    let status = number_of(bits);
-    if profile.trigger_of(e.function) == 0 {
+    if trigger == 0 {
         return 0x01;
     }
-    if !is_known(profile, e) {
+    if !known {
         return 0x02;
     }
     if (status == 0b10) | (status == 0b11) {
@@ -221,7 +227,7 @@ fn first_error(profile: Profile, complete: bool, count: usize, e: Execution) -> 
     if complete {
         return 0xFF;
     }
-    if 64 <= count {
+    if MOST_STEPS <= count {
         return 0x04;
     }
     0x00
@@ -238,72 +244,79 @@ fn first_value(status: u8, value: u32) -> u32
 }
 
 // The clients' records after a step of this slot is stored.
-fn clients_after(clients: [Client; 8], slot: u8, client: Slot) -> [Client; 8]
-    ensures { λ r. ⌜ r ≡ clientsAfter clients slot client ⌝ }
+fn records_after(records: [ClientRecord; SLOTS], slot: u8, client: Client) -> [ClientRecord; SLOTS]
+    ensures { λ r. ⌜ r ≡ recordsAfter records slot client ⌝ }
 {
     let at = slot as usize;
-    if 8 <= at {
-        return clients;
+    if SLOTS <= at {
+        return records;
     }
-    let old = clients[at];
+    let old = records[at];
     if old.used != 0 {
-        return clients;
+        return records;
     }
-    let mut after = clients;
-    let new = client.client();
+    let mut after = records;
+    let new = client.kept_record();
     after[at] = new;
     after
 }
 
-// A client's step stays among these.
-fn has_step(steps: [Step; 64], count: usize, slot: u8) -> bool
-    ensures { λ r. ⌜ r ≡ some (isOf slot) (take count steps) ⌝ }
+// The slots of which a step stays, as bits.
+fn slots_of(steps: [Step; MOST_STEPS], count: usize) -> u64
+    ensures { λ r. ⌜ HasSlots r (take count steps) ⌝ }
 {
-    let end = at_most(count, 64);
+    let end = at_most(count, MOST_STEPS);
+    let mut bits: u64 = 0;
     let mut i: usize = 0;
     while i < end {
-        if steps[i].slot == slot {
-            return true;
-        }
+        let slot = steps[i].slot;
         i += 1;
+        if slot < 64 {
+            bits = with_bit(bits, slot as u64);
+        }
     }
-    false
+    bits
 }
 
-fn record_of(steps: [Step; 64], count: usize, slot: u8, client: Client) -> Client
-    ensures { λ r. ⌜ r ≡ recordOf (take count steps) slot client ⌝ }
+fn record_kept(stays: bool, client: ClientRecord) -> ClientRecord
+    ensures { λ r. ⌜ r ≡ pick stays client blankRecord ⌝ }
 {
-    if has_step(steps, count, slot) {
+    if stays {
         return client;
     }
-    blank_client()
+    blank_record()
 }
 
 // The records of the clients of which a step stays.
-fn records_of(steps: [Step; 64], count: usize, clients: [Client; 8]) -> [Client; 8]
-    ensures { λ r. ⌜ r ≡ recordsFrom (take count steps) 0 clients ⌝ }
+fn records_of(
+    steps: [Step; MOST_STEPS],
+    count: usize,
+    records: [ClientRecord; SLOTS],
+) -> [ClientRecord; SLOTS]
+    ensures { λ r. ⌜ r ≡ recordsFrom (take count steps) 0 records ⌝ }
 {
-    let mut records = clients;
+    let bits = slots_of(steps, count);
+    let mut after = records;
     let mut i: usize = 0;
-    while i < 8 {
-        records[i] = record_of(steps, count, i as u8, records[i]);
+    while i < SLOTS {
+        after[i] = record_kept(has_bit(bits, i as u64), after[i]);
         i += 1;
     }
-    records
+    after
 }
 
 fn does_stay(taken: Taken) -> bool
     ensures { λ r. ⌜ r ≡ stays taken ⌝ }
 {
-    (taken.status == ONE_SHOT) | (taken.status == DONE)
+    (taken.status == ONE_SHOT) | (taken.status == STEP_DONE)
 }
 
-fn kept_steps(taken: [Taken; 64], count: usize) -> Kept
+fn kept_steps(taken: [Taken; MOST_STEPS], count: usize) -> Kept
     ensures { λ r. ⌜ r ≡ stored (stayed (take count taken)) ⌝ }
 {
-    let end = at_most(count, 64);
+    let end = at_most(count, MOST_STEPS);
     let blank = blank_step();
-    let mut steps = [blank; 64];
+    let mut steps = [blank; MOST_STEPS];
     let mut n: usize = 0;
     let mut i: usize = 0;
     while i < end {
@@ -323,7 +336,7 @@ fn kept_steps(taken: [Taken; 64], count: usize) -> Kept
 impl Recording {
     // A tick and its millimetres are counted.
     pub fn counted(mut self, mm: u32) -> Recording
-        ensures { λ r. ⌜ r ≡ countedOf self mm ⌝ }
+        ensures { λ r. ⌜ r ≡ countedRecording self mm ⌝ }
     {
         self.ticks = more(self.ticks, 1);
         self.distance = more(self.distance, mm);
@@ -357,7 +370,7 @@ impl Recording {
         ensures { λ r. ⌜ r ≡ newStep self trigger slot e ⌝ }
     {
         let bits = e.status;
-        let status = number_of(bits);
+        let status = status_number(bits);
         let mut step = Step {
             slot,
             function: e.function,
@@ -383,32 +396,36 @@ impl Recording {
     }
 
     // A step is stored after the others, and its client's record with its first.
-    fn with_new(mut self, taken: Taken, client: Slot) -> Recording
+    fn with_new(mut self, taken: Taken, client: Client) -> Recording
         requires { ⌜ self .count < 64 ⌝ }
         ensures { λ r. ⌜ r ≡ withNew self taken client ⌝ }
     {
         let count = self.count;
-        let clients = self.clients;
-        let after = clients_after(clients, taken.step.slot, client);
+        let records = self.records;
+        let after = records_after(records, taken.step.slot, client);
         self.steps[count] = taken;
         self.count = count + 1;
-        self.clients = after;
+        self.records = after;
         self
     }
 
     // A message of a step that is not held.
-    fn first(self, slot: u8, client: Slot, complete: bool, e: Execution) -> Heard
+    fn first(self, slot: u8, client: Client, complete: bool, e: Execution) -> Heard
         ensures { λ r. ⌜ r ≡ heardFirst self slot client complete e ⌝ }
     {
         let profile = client.profile;
-        let error = first_error(profile, complete, self.count, e);
+        let at = e.function as usize;
+        let trigger = profile.trigger[at];
+        let known = is_known(profile.states[at], e.state);
+        let bits = e.status;
+        let error = first_error(trigger, known, complete, self.count, status_number(bits));
         if error != 0x00 {
             return Heard {
                 error,
                 recording: self,
             };
         }
-        let taken = self.new_step(profile.trigger_of(e.function), slot, e);
+        let taken = self.new_step(trigger, slot, e);
         Heard {
             error: 0x00,
             recording: self.with_new(taken, client),
@@ -416,12 +433,12 @@ impl Recording {
     }
 
     // An E.4 that counts; complete: the master is in record complete.
-    pub fn heard(self, slot: u8, client: Slot, complete: bool, e: Execution) -> Heard
+    pub fn heard(self, slot: u8, client: Client, complete: bool, e: Execution) -> Heard
         ensures { λ r. ⌜ r ≡ heardOf self slot client complete e ⌝ }
     {
         let steps = self.steps;
         let i = find(steps, self.count, slot, e.tan);
-        if i < 64 {
+        if i < MOST_STEPS {
             return self.again(i, e);
         }
         self.first(slot, client, complete, e)
@@ -429,7 +446,7 @@ impl Recording {
 
     // The sequence after the end: the steps that stay, with their clients' records; the old one where none stays.
     pub fn kept(self, old: Sequence) -> Sequence
-        ensures { λ r. ⌜ r ≡ keptOf self old ⌝ }
+        ensures { λ r. ⌜ r ≡ keptSequence self old ⌝ }
     {
         let taken = self.steps;
         let kept = kept_steps(taken, self.count);
@@ -437,11 +454,11 @@ impl Recording {
             return old;
         }
         let steps = kept.steps;
-        let clients = self.clients;
+        let records = self.records;
         Sequence {
             count: kept.count,
             steps,
-            clients: records_of(steps, kept.count, clients),
+            records: records_of(steps, kept.count, records),
         }
     }
 }

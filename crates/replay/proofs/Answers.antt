@@ -1,5 +1,4 @@
 -- A step has an answer only by an E.7 of its own client, with its own TAN, function and state.
--- Assumes nothing.
 use mathlib.Core.Path.{_≡_, refl, sym, ap, _∙_, subst}
 use mathlib.Core.Bool.{Bool, true, false, _&&_, cond, true≢false}
 use mathlib.Core.Logic.{_⊎_, inl, inr}
@@ -13,7 +12,7 @@ use lib.ListN.{getD, take, set, length}
 use lib.Seq.{getD-set-same, getD-set-other}
 use Rattle.octets.specs.Pick.{pick}
 use Rattle.arrays.specs.Arrays.{firstFrom, more}
-use Rattle.message.specs.Fields.{numberOf}
+use Rattle.message.specs.Fields.{statusNumber}
 use Rattle.message.specs.declared.Reply.{Reply}
 use Rattle.sequence.specs.Sequence.{blankStep, lengthOf}
 use Rattle.sequence.specs.declared.Step.{Step}
@@ -22,10 +21,11 @@ use Rattle.playback.specs.declared.Sent.{Sent}
 use Rattle.playback.specs.declared.Playback.{Playback}
 use Rattle.playback.specs.declared.Answered.{Answered}
 use Rattle.playback.specs.Pairs.{pairs}
-use Rattle.playback.specs.State.{blankSent}
-use Rattle.playback.specs.Tick.{countedOf, doesStop, doesLeave, nextTan, leftOf}
+use Rattle.playback.specs.State.{answerNone, answerDone, goesOn, blankSent}
+use Rattle.playback.specs.Tick.{countedPlayback, doesStop, doesLeave, nextTan, afterLeaving}
 use Rattle.playback.specs.Answer.{isAnswerOf, findAnswered, isError, withAnswer, isAllDone, answeredOf}
 use Rattle.playback.proofs.Leaves.{leaves-within}
+use Rattle.playback.proofs.Changes.{answeredBy}
 use Rattle.replay.specs.Run.{tick, answer, State, going, stepOf, sentAt, HasAnswer, AnsweredAt}
 use Rattle.replay.proofs.Follows.{Good, tickState, tick-shape, verdict, answerState, answer-shape, matched, heard}
 
@@ -105,8 +105,8 @@ module _ (sequence : Sequence) (p : Playback) (slot : ℕ) (reply : Reply) where
   -- AN ANSWER MARKS ITS OWN STEP
   pub by-answer : (tan i : ℕ) → AnsweredAt (stepOf sequence (going p tan) (answer slot reply)) i → HasAnswer p i ⊎ Matches sequence p slot reply i
   by-answer tan i h =
-      go (by-verdict tan i (leb 64 (matched sequence p slot reply)) (eqb (getD (p .commands) (matched sequence p slot reply) blankSent .answer) 2)
-      (isError (numberOf (reply .status)) (reply .error)) (isAllDone (heard sequence p slot reply) (lengthOf sequence))
+      go (by-verdict tan i (leb 64 (matched sequence p slot reply)) (eqb (getD (p .commands) (matched sequence p slot reply) blankSent .answer) answerDone)
+      (isError (statusNumber (reply .status)) (reply .error)) (isAllDone (heard sequence p slot reply) (lengthOf sequence))
       (subst (λ (s : State). AnsweredAt s i) (answer-shape sequence p slot reply tan) h))
     where
       go : HasAnswer p i ⊎ ((leb 64 (matched sequence p slot reply) ≡ false) × HasAnswer (heard sequence p slot reply) i)
@@ -125,8 +125,8 @@ below i n h d = go (eq-or-lt-of-le k)
     go (inr l) = l
 
 by-tests : (a b : Bool) (p : Playback) (mm tan i : ℕ) → length (p .commands) ≡ 64 → (b ≡ true → p .sent < 64)
-    → AnsweredAt (tickState a b (countedOf p mm) tan) i → HasAnswer p i
-unfolding countedOf leftOf
+    → AnsweredAt (tickState a b (countedPlayback p mm) tan) i → HasAnswer p i
+unfolding countedPlayback afterLeaving
 by-tests true b p mm tan i n w h = absurd h
 by-tests false false p mm tan i n w h = h
 by-tests false true p mm tan i n w h = go (eqb i (p .sent)) refl
@@ -136,32 +136,27 @@ by-tests false true p mm tan i n w h = go (eqb i (p .sent)) refl
         let q = eqb-true i (p .sent) e in
         absurd
         (h .1
-        (ap (λ (j : ℕ). getD (set (p .commands) (p .sent) (record { tan = nextTan tan; answer = 0; left = more (p .ticks) 1 })) j blankSent .answer) q
+        (ap (λ (j : ℕ). getD (set (p .commands) (p .sent) (record { tan = nextTan tan; answer = answerNone; left = more (p .ticks) 1 })) j blankSent .answer) q
         ∙ ap (λ (c : Sent). c .answer) (getD-set-same (p .commands) (p .sent) _ blankSent (omega (arith, n, w refl)))))
     go false e =
-        let o = getD-set-other (p .commands) (p .sent) i (record { tan = nextTan tan; answer = 0; left = more (p .ticks) 1 }) blankSent (eqb-false i (p .sent) e) in
+        let o = getD-set-other (p .commands) (p .sent) i (record { tan = nextTan tan; answer = answerNone; left = more (p .ticks) 1 }) blankSent (eqb-false i (p .sent) e) in
         let q = eqb-false i (p .sent) e in
         (below i (p .sent) (h .0) q, λ z. h .1 (ap (λ (c : Sent). c .answer) o ∙ z))
 
 -- AN ANSWER ENDS A PLAYBACK ONLY BY AN ERROR, OR AS THE LAST
-pub why-over : (sequence : Sequence) (p : Playback) (slot : ℕ) (reply : Reply) → (answeredOf p sequence slot reply .over ≡ 0 → ⊥)
-    → (isError (numberOf (reply .status)) (reply .error) ≡ true) ⊎ (isAllDone (answeredOf p sequence slot reply .playback) (lengthOf sequence) ≡ true)
+pub why-over : (sequence : Sequence) (p : Playback) (slot : ℕ) (reply : Reply) → (answeredOf p sequence slot reply .end ≡ goesOn → ⊥)
+    → (isError (statusNumber (reply .status)) (reply .error) ≡ true) ⊎ (isAllDone (answeredOf p sequence slot reply .playback) (lengthOf sequence) ≡ true)
 unfolding pick answeredOf
 why-over sequence p slot reply h =
-    go (leb 64 (matched sequence p slot reply)) (eqb (getD (p .commands) (matched sequence p slot reply) blankSent .answer) 2)
-    (isError (numberOf (reply .status)) (reply .error)) (isAllDone (heard sequence p slot reply) (lengthOf sequence)) refl refl h
+    go (leb 64 (matched sequence p slot reply)) (eqb (getD (p .commands) (matched sequence p slot reply) blankSent .answer) answerDone)
+    (isError (statusNumber (reply .status)) (reply .error)) (isAllDone (heard sequence p slot reply) (lengthOf sequence)) refl refl h
   where
     given : Bool → Bool → Bool → Bool → Answered
-    given a b c d =
-        pick a (record { number = 15; over = 0; playback = p })
-        (pick b (record { number = 0; over = 0; playback = p })
-        (pick c (record { number = 0; over = 2; playback = p })
-        (pick d (record { number = 0; over = 1; playback = heard sequence p slot reply })
-        (record { number = 0; over = 0; playback = heard sequence p slot reply }))))
+    given = answeredBy p (heard sequence p slot reply)
 
-    go : (a b c d : Bool) → isError (numberOf (reply .status)) (reply .error) ≡ c → isAllDone (heard sequence p slot reply) (lengthOf sequence) ≡ d
-        → (given a b c d .over ≡ 0 → ⊥)
-        → (isError (numberOf (reply .status)) (reply .error) ≡ true) ⊎ (isAllDone (given a b c d .playback) (lengthOf sequence) ≡ true)
+    go : (a b c d : Bool) → isError (statusNumber (reply .status)) (reply .error) ≡ c → isAllDone (heard sequence p slot reply) (lengthOf sequence) ≡ d
+        → (given a b c d .end ≡ goesOn → ⊥)
+        → (isError (statusNumber (reply .status)) (reply .error) ≡ true) ⊎ (isAllDone (given a b c d .playback) (lengthOf sequence) ≡ true)
     go true b c d x y z = absurd (z refl)
     go false true c d x y z = absurd (z refl)
     go false false true d x y z = inl x
@@ -170,7 +165,7 @@ why-over sequence p slot reply h =
 
 -- A TICK GIVES NO STEP AN ANSWER
 pub by-tick : (sequence : Sequence) (p : Playback) → Good p → (mm tan i : ℕ) → AnsweredAt (stepOf sequence (going p tan) (tick mm)) i → HasAnswer p i
-unfolding countedOf
+unfolding countedPlayback
 by-tick sequence p g mm tan i h =
-    by-tests (doesStop (countedOf p mm)) (doesLeave (countedOf p mm) (sequence .steps) (lengthOf sequence)) p mm tan i (g .cells)
-    (leaves-within (countedOf p mm) (sequence .steps) (lengthOf sequence)) (subst (λ (s : State). AnsweredAt s i) (tick-shape p sequence tan mm) h)
+    by-tests (doesStop (countedPlayback p mm)) (doesLeave (countedPlayback p mm) (sequence .steps) (lengthOf sequence)) p mm tan i (g .cells)
+    (leaves-within (countedPlayback p mm) (sequence .steps) (lengthOf sequence)) (subst (λ (s : State). AnsweredAt s i) (tick-shape p sequence tan mm) h)

@@ -1,5 +1,4 @@
 -- A playback in arrays, and the playback of crate `ticks`: what each store and each test on the cells is, on the lists.
--- Assumes nothing.
 use mathlib.Core.Path.{_≡_, refl, sym, ap, subst}
 use mathlib.Core.Bool.{Bool, true, false, not, _&&_, _||_, cond, or-false}
 use mathlib.Core.List.{List, [], _∷_}
@@ -13,9 +12,9 @@ use Rattle.sequence.specs.declared.Step.{Step}
 use Rattle.sequence.specs.declared.Sequence.{Sequence}
 use Rattle.playback.specs.declared.Sent.{Sent}
 use Rattle.arrays.specs.Arrays.{some}
-use Rattle.playback.specs.State.{isUnanswered, blankSent}
+use Rattle.playback.specs.State.{answerNone, isUnanswered, blankSent}
 use Rattle.playback.specs.Tick.{isLate, isDue}
-use Rattle.ticks.specs.Playback as abs
+use Rattle.ticks.specs.Queue as abs
 
 abbrev pub markOf : Step → abs.Mark
 markOf s = cond (eqb (s .distance) 0) (abs.ticks (s .mark)) (abs.millimetres (s .mark))
@@ -27,7 +26,7 @@ marksOf (s ∷ ss) = markOf s ∷ marksOf ss
 abbrev pub marksIn : Sequence → List abs.Mark
 marksIn sequence = marksOf (take (lengthOf sequence) (sequence .steps))
 
-abbrev pub sentsOf : List Sent → List abs.Sent
+abbrev pub sentsOf : List Sent → List abs.LeftStep
 sentsOf [] = []
 sentsOf (c ∷ cs) = record { left = c .left; answered = not (isUnanswered c) } ∷ sentsOf cs
 
@@ -63,10 +62,10 @@ length-sents (suc n) [] h = absurd (omega arith)
 length-sents (suc n) (c ∷ cs) h = ap suc (length-sents n cs (omega arith))
 
 pub leave-cell : (n : ℕ) (cs : List Sent) (x t : ℕ) → n < length cs
-    → sentsOf (take (suc n) (set cs n (record { tan = x; answer = 0; left = t }))) ≡ abs.leave true t (sentsOf (take n cs))
+    → sentsOf (take (suc n) (set cs n (record { tan = x; answer = answerNone; left = t }))) ≡ abs.leave true t (sentsOf (take n cs))
 leave-cell n [] x t h = absurd (omega arith)
 leave-cell zero (c ∷ cs) x t h = refl
-leave-cell (suc n) (c ∷ cs) x t h = ap (λ (r : List abs.Sent). record { left = c .left; answered = not (isUnanswered c) } ∷ r) (leave-cell n cs x t (omega arith))
+leave-cell (suc n) (c ∷ cs) x t h = ap (λ (r : List abs.LeftStep). record { left = c .left; answered = not (isUnanswered c) } ∷ r) (leave-cell n cs x t (omega arith))
 
 -- cell i with this answer
 abbrev pub marked : List Sent → ℕ → ℕ → List Sent
@@ -76,7 +75,7 @@ pub answer-cell : (n : ℕ) (cs : List Sent) (i a : ℕ) → eqb a 0 ≡ false �
 answer-cell zero cs i a e = refl
 answer-cell (suc n) [] i a e = refl
 answer-cell (suc n) (c ∷ cs) zero a e = rw e
-answer-cell (suc n) (c ∷ cs) (suc i) a e = ap (λ (r : List abs.Sent). record { left = c .left; answered = not (isUnanswered c) } ∷ r) (answer-cell n cs i a e)
+answer-cell (suc n) (c ∷ cs) (suc i) a e = ap (λ (r : List abs.LeftStep). record { left = c .left; answered = not (isUnanswered c) } ∷ r) (answer-cell n cs i a e)
 
 -- ---- what is read back
 
@@ -91,10 +90,10 @@ length-lefts zero cs h = refl
 length-lefts (suc n) [] h = absurd (omega arith)
 length-lefts (suc n) (c ∷ cs) h = ap suc (length-lefts n cs (omega arith))
 
-pub answered-back : (n : ℕ) (cs : List Sent) (i : ℕ) → T (abs.isAnswered (sentsOf (take n cs)) i) → (i < n) × (getD cs i blankSent .answer ≡ 0 → ⊥)
+pub answered-back : (n : ℕ) (cs : List Sent) (i : ℕ) → T (abs.isAnswered (sentsOf (take n cs)) i) → (i < n) × (getD cs i blankSent .answer ≡ answerNone → ⊥)
 answered-back zero cs i a = absurd a
 answered-back (suc n) [] i a = absurd a
-answered-back (suc n) (c ∷ cs) zero a = (omega arith, λ e. subst (λ (b : Bool). T (not b)) (eq-eqb (c .answer) 0 e) a)
+answered-back (suc n) (c ∷ cs) zero a = (omega arith, λ e. subst (λ (b : Bool). T (not b)) (eq-eqb (c .answer) answerNone e) a)
 answered-back (suc n) (c ∷ cs) (suc i) a = let r = answered-back n cs i a in (omega arith, r .1)
 
 -- an answer leaves a cell's tick and TAN as they were

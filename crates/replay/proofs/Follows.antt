@@ -1,29 +1,29 @@
 -- Each event does to a playback what it does to its projection.
--- Assumes nothing.
 use mathlib.Core.Path.{_≡_, refl, sym, ap, _∙_}
-use mathlib.Core.Bool.{Bool, true, false, not, _&&_}
+use mathlib.Core.Bool.{Bool, true, false}
 use mathlib.Core.List.{List, [], _∷_}
 use Prim.Native.Nat.{ℕ, suc, _+_, _*_, _≤_, _<_}
 use native.Mathlib.Numerals.{add-one}
 use native.Mathlib.Omega.{arith}
-use borrow.Author.Tests.{leb-true, leb-false, le-ltb}
-use lib.Dec.{leb, ltb, eqb}
+use borrow.Author.Tests.{leb-false}
+use lib.Dec.{leb, eqb}
 use lib.ListN.{length, getD, take, length-set}
-use Rattle.message.specs.Fields.{numberOf}
+use Rattle.message.specs.Fields.{statusNumber}
 use Rattle.message.specs.declared.Reply.{Reply}
-use Rattle.sequence.specs.Sequence.{lengthOf}
+use Rattle.sequence.specs.Sequence.{lastTick, lengthOf}
 use Rattle.sequence.specs.declared.Sequence.{Sequence}
 use Rattle.playback.specs.declared.Playback.{Playback}
 use Rattle.octets.specs.Pick.{pick}
 use Rattle.arrays.specs.Arrays.{more}
-use Rattle.playback.specs.State.{blankSent, blankPlayback}
-use Rattle.playback.specs.Tick.{countedOf, someLate, doesStop, doesLeave, nextTan, leftOf, tickOf}
+use Rattle.playback.specs.State.{answerDone, blankSent, blankPlayback}
+use Rattle.playback.specs.Tick.{countedPlayback, someLate, doesStop, doesLeave, nextTan, afterLeaving, tickOf}
 use Rattle.playback.specs.Answer.{findAnswered, isError, withAnswer, isAllDone, answeredOf}
 use Rattle.playback.specs.Answer as ans
-use Rattle.replay.specs.Run.{Event, tick, answer, message, ends, State, going, done, aborted, afterTick, afterAnswer, stepOf, runFrom, Whole, Fair, ticksOf}
+use Rattle.replay.specs.Run.{PlaybackEvent, tick, answer, message, ends, State, going, done, aborted, afterTick, afterAnswer, stepOf, playRunFrom, Whole, Fair, ticksOf}
 use Rattle.replay.proofs.Cells.{marksIn, sentsOf, late-some, few, reached-is, length-sents, leave-cell, answer-cell}
-use Rattle.playback.proofs.Leaves.{leaves-within}
-use Rattle.ticks.specs.Playback as abs
+use Rattle.playback.proofs.Leaves.{leaves-within, leaves-step}
+use Rattle.playback.proofs.Changes.{tickedBy, answeredBy}
+use Rattle.ticks.specs.Queue as abs
 use Rattle.ticks.proofs.Follows.{or-false}
 
 -- ---- the projection
@@ -31,7 +31,7 @@ use Rattle.ticks.proofs.Follows.{or-false}
 abbrev pub played : Playback → abs.Play
 played p = record { ticked = p .ticks; moved = p .distance; sent = sentsOf (take (p .sent) (p .commands)) }
 
-abbrev pub project : State → abs.Playback
+abbrev pub project : State → abs.Queue
 project (going p tan) = abs.playing (played p)
 project (done p) = abs.over
 project aborted = abs.over
@@ -40,20 +40,15 @@ project aborted = abs.over
 
 abbrev pub tickState : Bool → Bool → Playback → ℕ → State
 tickState true l q tan = aborted
-tickState false true q tan = going (leftOf q (nextTan tan)) (nextTan tan)
+tickState false true q tan = going (afterLeaving q (nextTan tan)) (nextTan tan)
 tickState false false q tan = going q tan
 
 pub tick-shape : (p : Playback) (sequence : Sequence) (tan mm : ℕ)
-    → afterTick (tickOf p sequence tan mm) ≡ tickState (doesStop (countedOf p mm)) (doesLeave (countedOf p mm) (sequence .steps) (lengthOf sequence)) (countedOf p mm) tan
+    → afterTick (tickOf p sequence tan mm) ≡ tickState (doesStop (countedPlayback p mm)) (doesLeave (countedPlayback p mm) (sequence .steps) (lengthOf sequence)) (countedPlayback p mm) tan
 unfolding pick afterTick tickOf
-tick-shape p sequence tan mm = go (doesStop (countedOf p mm)) (doesLeave (countedOf p mm) (sequence .steps) (lengthOf sequence))
+tick-shape p sequence tan mm = go (doesStop (countedPlayback p mm)) (doesLeave (countedPlayback p mm) (sequence .steps) (lengthOf sequence))
   where
-    go : (a b : Bool)
-        → afterTick
-        (pick a (record { ended = 1; tan = tan; playback = countedOf p mm })
-        (pick (not b) (record { ended = 0; tan = tan; playback = countedOf p mm })
-        (record { ended = 0; tan = nextTan tan; playback = leftOf (countedOf p mm) (nextTan tan) })))
-        ≡ tickState a b (countedOf p mm) tan
+    go : (a b : Bool) → afterTick (tickedBy (countedPlayback p mm) tan a b) ≡ tickState a b (countedPlayback p mm) tan
     go true b = refl
     go false true = refl
     go false false = refl
@@ -79,7 +74,7 @@ answerState fails p q tan = aborted
 answerState finishes p q tan = done q
 answerState marks p q tan = going q tan
 
-abbrev pub answerEvent : Verdict → ℕ → abs.Event
+abbrev pub answerEvent : Verdict → ℕ → abs.QueueEvent
 answerEvent nothing i = abs.message
 answerEvent fails i = abs.ends
 answerEvent finishes i = abs.ends
@@ -90,35 +85,28 @@ module _ (sequence : Sequence) (p : Playback) (slot : ℕ) (reply : Reply) where
   matched = findAnswered (sequence .steps) (p .commands) (p .sent) slot (reply .tan) (reply .function) (reply .state)
 
   abbrev pub heard : Playback
-  heard = withAnswer p matched (ans.markOf (numberOf (reply .status)))
+  heard = withAnswer p matched (ans.answerFrom (statusNumber (reply .status)))
 
   abbrev pub verdictOf : Verdict
-  verdictOf = verdict (leb 64 matched) (eqb (getD (p .commands) matched blankSent .answer) 2) (isError (numberOf (reply .status)) (reply .error)) (isAllDone heard (lengthOf sequence))
+  verdictOf = verdict (leb 64 matched) (eqb (getD (p .commands) matched blankSent .answer) answerDone) (isError (statusNumber (reply .status)) (reply .error)) (isAllDone heard (lengthOf sequence))
 
   pub answer-shape : (tan : ℕ) → afterAnswer tan (answeredOf p sequence slot reply)
       ≡ answerState verdictOf p heard tan
   unfolding pick afterAnswer answeredOf
-  answer-shape tan = go (leb 64 matched) (eqb (getD (p .commands) matched blankSent .answer) 2) (isError (numberOf (reply .status)) (reply .error)) (isAllDone heard (lengthOf sequence))
+  answer-shape tan = go (leb 64 matched) (eqb (getD (p .commands) matched blankSent .answer) answerDone) (isError (statusNumber (reply .status)) (reply .error)) (isAllDone heard (lengthOf sequence))
     where
-      go : (a b c d : Bool)
-          → afterAnswer tan
-          (pick a (record { number = 15; over = 0; playback = p })
-          (pick b (record { number = 0; over = 0; playback = p })
-          (pick c (record { number = 0; over = 2; playback = p })
-          (pick d (record { number = 0; over = 1; playback = heard })
-          (record { number = 0; over = 0; playback = heard })))))
-          ≡ answerState (verdict a b c d) p heard tan
+      go : (a b c d : Bool) → afterAnswer tan (answeredBy p heard a b c d) ≡ answerState (verdict a b c d) p heard tan
       go true b c d = refl
       go false true c d = refl
       go false false true d = refl
       go false false false true = refl
       go false false false false = refl
 
-  abbrev pub heardEvent : abs.Event
+  abbrev pub heardEvent : abs.QueueEvent
   heardEvent = answerEvent verdictOf matched
 
 -- the event as `ticks` has it
-abbrev pub seen : Sequence → State → Event → abs.Event
+abbrev pub seen : Sequence → State → PlaybackEvent → abs.QueueEvent
 seen sequence s (tick mm) = abs.tick mm
 seen sequence (done p) (answer slot reply) = abs.message
 seen sequence aborted (answer slot reply) = abs.message
@@ -126,14 +114,14 @@ seen sequence (going p tan) (answer slot reply) = heardEvent sequence p slot rep
 seen sequence s message = abs.message
 seen sequence s ends = abs.ends
 
-abbrev pub seenAll : Sequence → State → List Event → List abs.Event
+abbrev pub seenAll : Sequence → State → List PlaybackEvent → List abs.QueueEvent
 seenAll sequence s [] = []
 seenAll sequence s (e ∷ es) = seen sequence s e ∷ seenAll sequence (stepOf sequence s e) es
 
 -- ---- what every run keeps
 
 pub record Good (p : Playback) : Type 0 where
-  pub early : p .ticks < 36000
+  pub early : p .ticks < lastTick
   pub near : p .distance ≤ p .ticks * 65535
   pub cells : length (p .commands) ≡ 64
   pub within : p .sent ≤ 64
@@ -149,57 +137,47 @@ sound-start tan = record { early = omega arith; near = omega arith; cells = refl
 
 -- no sum meets its bound
 module _ (p : Playback) (mm : ℕ) (g : Good p) (f : mm ≤ 65535) where
-  pub ticks-counted : countedOf p mm .ticks ≡ suc (p .ticks)
-  unfolding countedOf more
+  pub ticks-counted : countedPlayback p mm .ticks ≡ suc (p .ticks)
+  unfolding countedPlayback more
   ticks-counted = omega (arith, g .early)
 
-  pub distance-counted : countedOf p mm .distance ≡ p .distance + mm
-  unfolding countedOf more
+  pub distance-counted : countedPlayback p mm .distance ≡ p .distance + mm
+  unfolding countedPlayback more
   distance-counted = omega (arith, g .early, g .near)
 
-  pub sent-counted : countedOf p mm .sent ≡ p .sent
-  unfolding countedOf
+  pub sent-counted : countedPlayback p mm .sent ≡ p .sent
+  unfolding countedPlayback
   sent-counted = refl
 
-  pub commands-counted : countedOf p mm .commands ≡ p .commands
-  unfolding countedOf
+  pub commands-counted : countedPlayback p mm .commands ≡ p .commands
+  unfolding countedPlayback
   commands-counted = refl
 
-  pub stop-is : doesStop (countedOf p mm) ≡ abs.stops (suc (p .ticks)) (sentsOf (take (p .sent) (p .commands)))
+  pub stop-is : doesStop (countedPlayback p mm) ≡ abs.stops (suc (p .ticks)) (sentsOf (take (p .sent) (p .commands)))
   unfolding doesStop someLate
   stop-is = rw (ticks-counted, sent-counted, commands-counted, late-some)
 
   module _ (sequence : Sequence) (whole : Whole sequence) where
-    -- a step that has no cell is not one of the sequence
-    has-cell : (n : ℕ) (x : Bool) → pick (leb 64 n) false (ltb n (lengthOf sequence) && x) ≡ (ltb n (lengthOf sequence) && x)
-    unfolding pick
-    has-cell n x = go (leb 64 n) refl
-      where
-        go : (b : Bool) → leb 64 n ≡ b → pick b false (ltb n (lengthOf sequence) && x) ≡ (ltb n (lengthOf sequence) && x)
-        go true e = rw (le-ltb n (lengthOf sequence) (omega (arith, leb-true 64 n e, few sequence)))
-        go false e = refl
-
-    pub leave-is : doesLeave (countedOf p mm) (sequence .steps) (lengthOf sequence)
+    pub leave-is : doesLeave (countedPlayback p mm) (sequence .steps) (lengthOf sequence)
         ≡ abs.reached (marksIn sequence) (length (sentsOf (take (p .sent) (p .commands)))) (suc (p .ticks)) (p .distance + mm)
-    unfolding doesLeave
     leave-is =
         rw (
+          leaves-step,
           ticks-counted,
           distance-counted,
           sent-counted,
           length-sents (p .sent) (p .commands) (omega (arith, g .within, g .cells)),
           reached-is (sequence .steps) (lengthOf sequence) (p .sent) (suc (p .ticks)) (p .distance + mm) (omega (arith, few sequence, whole)),
         )
-        (has-cell (p .sent) _)
 
     pub sim-tick : (tan : ℕ) → project (stepOf sequence (going p tan) (tick mm)) ≡ abs.step (marksIn sequence) (project (going p tan)) (abs.tick mm)
-    unfolding leftOf
-    sim-tick tan = rw tick-shape (go _ _ (sym stop-is) (sym leave-is) (leaves-within (countedOf p mm) (sequence .steps) (lengthOf sequence)))
+    unfolding afterLeaving
+    sim-tick tan = rw tick-shape (go _ _ (sym stop-is) (sym leave-is) (leaves-within (countedPlayback p mm) (sequence .steps) (lengthOf sequence)))
       where
         go : (a b : Bool) → abs.stops (suc (p .ticks)) (sentsOf (take (p .sent) (p .commands))) ≡ a
             → abs.reached (marksIn sequence) (length (sentsOf (take (p .sent) (p .commands)))) (suc (p .ticks)) (p .distance + mm) ≡ b
-            → (b ≡ true → countedOf p mm .sent < 64)
-            → project (tickState a b (countedOf p mm) tan)
+            → (b ≡ true → countedPlayback p mm .sent < 64)
+            → project (tickState a b (countedPlayback p mm) tan)
             ≡ abs.atTick (abs.stops (suc (p .ticks)) (sentsOf (take (p .sent) (p .commands)))) (marksIn sequence) (suc (p .ticks)) (p .distance + mm) (sentsOf (take (p .sent) (p .commands)))
         go true b ea eb w = rw ea
         go false true ea eb w =
@@ -216,21 +194,21 @@ module _ (p : Playback) (mm : ℕ) (g : Good p) (f : mm ≤ 65535) where
         go false false ea eb w = rw (ea, eb, ticks-counted, distance-counted, sent-counted, commands-counted)
 
     pub keeps-tick : (tan : ℕ) → Sound (stepOf sequence (going p tan) (tick mm))
-    unfolding leftOf doesStop
-    keeps-tick tan = rw tick-shape (go _ _ refl (leaves-within (countedOf p mm) (sequence .steps) (lengthOf sequence)))
+    unfolding afterLeaving doesStop
+    keeps-tick tan = rw tick-shape (go _ _ refl (leaves-within (countedPlayback p mm) (sequence .steps) (lengthOf sequence)))
       where
-        go : (a b : Bool) → doesStop (countedOf p mm) ≡ a → (b ≡ true → countedOf p mm .sent < 64) → Sound (tickState a b (countedOf p mm) tan)
+        go : (a b : Bool) → doesStop (countedPlayback p mm) ≡ a → (b ≡ true → countedPlayback p mm .sent < 64) → Sound (tickState a b (countedPlayback p mm) tan)
         go true b ea w = tt
         go false true ea w =
             record {
-              early = leb-false 36000 _ (or-false _ _ ea .0);
+              early = leb-false lastTick _ (or-false _ _ ea .0);
               near = omega (arith, ticks-counted, distance-counted, g .near);
               cells = rw commands-counted (length-set (p .commands) _ _ ∙ g .cells);
               within = omega (arith, w refl);
             }
         go false false ea w =
             record {
-              early = leb-false 36000 _ (or-false _ _ ea .0);
+              early = leb-false lastTick _ (or-false _ _ ea .0);
               near = omega (arith, ticks-counted, distance-counted, g .near);
               cells = rw commands-counted (g .cells);
               within = omega (arith, sent-counted, g .within);
@@ -238,8 +216,8 @@ module _ (p : Playback) (mm : ℕ) (g : Good p) (f : mm ≤ 65535) where
 
 -- ---- an answer
 
-mark-is : (status : ℕ) → eqb (ans.markOf status) 0 ≡ false
-unfolding pick ans.markOf
+mark-is : (status : ℕ) → eqb (ans.answerFrom status) 0 ≡ false
+unfolding pick ans.answerFrom
 mark-is status = go (eqb status 1)
   where
     go : (b : Bool) → eqb (pick b 1 2) 0 ≡ false
@@ -247,14 +225,14 @@ mark-is status = go (eqb status 1)
     go false = refl
 
 module _ (p : Playback) (i status tan : ℕ) where
-  sim-answer : (m : List abs.Mark) (v : Verdict) → project (answerState v p (withAnswer p i (ans.markOf status)) tan) ≡ abs.step m (abs.playing (played p)) (answerEvent v i)
+  sim-answer : (m : List abs.Mark) (v : Verdict) → project (answerState v p (withAnswer p i (ans.answerFrom status)) tan) ≡ abs.step m (abs.playing (played p)) (answerEvent v i)
   unfolding withAnswer
   sim-answer m nothing = refl
   sim-answer m fails = refl
   sim-answer m finishes = refl
-  sim-answer m marks = rw (answer-cell (p .sent) (p .commands) i (ans.markOf status) (mark-is status))
+  sim-answer m marks = rw (answer-cell (p .sent) (p .commands) i (ans.answerFrom status) (mark-is status))
 
-  keeps-answer : (v : Verdict) → Good p → Sound (answerState v p (withAnswer p i (ans.markOf status)) tan)
+  keeps-answer : (v : Verdict) → Good p → Sound (answerState v p (withAnswer p i (ans.answerFrom status)) tan)
   unfolding withAnswer
   keeps-answer nothing g = g
   keeps-answer fails g = tt
@@ -263,63 +241,63 @@ module _ (p : Playback) (i status tan : ℕ) where
 
 -- ---- a run
 
-abbrev pub FairOne : Event → Type 0
+abbrev pub FairOne : PlaybackEvent → Type 0
 FairOne e = Fair (e ∷ [])
 
-pub fair-head : (e : Event) (es : List Event) → Fair (e ∷ es) → FairOne e
+pub fair-head : (e : PlaybackEvent) (es : List PlaybackEvent) → Fair (e ∷ es) → FairOne e
 fair-head (tick mm) es h = (h .0, tt)
 fair-head (answer a r) es h = tt
 fair-head message es h = tt
 fair-head ends es h = tt
 
-pub fair-tail : (e : Event) (es : List Event) → Fair (e ∷ es) → Fair es
+pub fair-tail : (e : PlaybackEvent) (es : List PlaybackEvent) → Fair (e ∷ es) → Fair es
 fair-tail (tick mm) es h = h .1
 fair-tail (answer a r) es h = h
 fair-tail message es h = h
 fair-tail ends es h = h
 
 module _ (sequence : Sequence) (whole : Whole sequence) where
-  pub keeps : (s : State) (e : Event) → FairOne e → Sound s → Sound (stepOf sequence s e)
+  pub keeps : (s : State) (e : PlaybackEvent) → FairOne e → Sound s → Sound (stepOf sequence s e)
   keeps (done p) e f h = h
   keeps aborted e f h = tt
   keeps (going p tan) (tick mm) f g = keeps-tick p mm g (f .0) sequence whole tan
   keeps (going p tan) (answer slot reply) f g =
-      rw answer-shape (keeps-answer p (matched sequence p slot reply) (numberOf (reply .status)) tan (verdictOf sequence p slot reply) g)
+      rw answer-shape (keeps-answer p (matched sequence p slot reply) (statusNumber (reply .status)) tan (verdictOf sequence p slot reply) g)
   keeps (going p tan) message f g = g
   keeps (going p tan) ends f g = tt
 
-  pub follows-one : (s : State) (e : Event) → FairOne e → Sound s → project (stepOf sequence s e) ≡ abs.step (marksIn sequence) (project s) (seen sequence s e)
+  pub follows-one : (s : State) (e : PlaybackEvent) → FairOne e → Sound s → project (stepOf sequence s e) ≡ abs.step (marksIn sequence) (project s) (seen sequence s e)
   follows-one (done p) e f h = go e
     where
-      go : (d : Event) → abs.over ≡ abs.step (marksIn sequence) abs.over (seen sequence (done p) d)
+      go : (d : PlaybackEvent) → abs.over ≡ abs.step (marksIn sequence) abs.over (seen sequence (done p) d)
       go d = refl
   follows-one aborted e f h = refl
   follows-one (going p tan) (tick mm) f g = sim-tick p mm g (f .0) sequence whole tan
   follows-one (going p tan) (answer slot reply) f g =
-      rw answer-shape (sim-answer p (matched sequence p slot reply) (numberOf (reply .status)) tan _ (verdictOf sequence p slot reply))
+      rw answer-shape (sim-answer p (matched sequence p slot reply) (statusNumber (reply .status)) tan _ (verdictOf sequence p slot reply))
   follows-one (going p tan) message f g = refl
   follows-one (going p tan) ends f g = refl
 
-  pub keeps-all : (es : List Event) (s : State) → Fair es → Sound s → Sound (runFrom sequence s es)
+  pub keeps-all : (es : List PlaybackEvent) (s : State) → Fair es → Sound s → Sound (playRunFrom sequence s es)
   keeps-all [] s f h = h
   keeps-all (e ∷ es) s f h = keeps-all es (stepOf sequence s e) (fair-tail e es f) (keeps s e (fair-head e es f) h)
 
   -- A RUN OF THE CALLS' DEFINITIONS IS A RUN OF THE PLAYBACK OF `ticks`
-  pub follows : (es : List Event) (s : State) → Fair es → Sound s
-      → project (runFrom sequence s es) ≡ abs.runFrom (marksIn sequence) (project s) (seenAll sequence s es)
+  pub follows : (es : List PlaybackEvent) (s : State) → Fair es → Sound s
+      → project (playRunFrom sequence s es) ≡ abs.queueRunFrom (marksIn sequence) (project s) (seenAll sequence s es)
   follows [] s f h = refl
   follows (e ∷ es) s f h =
       follows es (stepOf sequence s e) (fair-tail e es f) (keeps s e (fair-head e es f) h)
-      ∙ ap (λ (r : abs.Playback). abs.runFrom (marksIn sequence) r (seenAll sequence (stepOf sequence s e) es)) (follows-one s e (fair-head e es f) h)
+      ∙ ap (λ (r : abs.Queue). abs.queueRunFrom (marksIn sequence) r (seenAll sequence (stepOf sequence s e) es)) (follows-one s e (fair-head e es f) h)
 
 -- with the same ticks
-no-tick : (v : Verdict) (i : ℕ) (es : List abs.Event) → abs.tickList (answerEvent v i ∷ es) ≡ abs.tickList es
+no-tick : (v : Verdict) (i : ℕ) (es : List abs.QueueEvent) → abs.tickList (answerEvent v i ∷ es) ≡ abs.tickList es
 no-tick nothing i es = refl
 no-tick fails i es = refl
 no-tick finishes i es = refl
 no-tick marks i es = refl
 
-pub same-ticks : (sequence : Sequence) (es : List Event) (s : State) → abs.tickList (seenAll sequence s es) ≡ ticksOf es
+pub same-ticks : (sequence : Sequence) (es : List PlaybackEvent) (s : State) → abs.tickList (seenAll sequence s es) ≡ ticksOf es
 same-ticks sequence [] s = refl
 same-ticks sequence (tick mm ∷ es) s = ap (λ (l : List ℕ). mm ∷ l) (same-ticks sequence es (stepOf sequence s (tick mm)))
 same-ticks sequence (answer a r ∷ es) (done p) = same-ticks sequence es (done p)

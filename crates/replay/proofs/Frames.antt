@@ -1,5 +1,4 @@
 -- The frame of a step that has left and is not answered: nine bytes, at its place.
--- Assumes nothing.
 use mathlib.Core.Path.{_≡_, refl, ap}
 use mathlib.Core.Bool.{Bool, true, false, cond}
 use mathlib.Core.List.{List, [], _∷_, _++_}
@@ -13,7 +12,8 @@ use Rattle.sequence.specs.declared.Step.{Step}
 use Rattle.sequence.specs.declared.Sequence.{Sequence}
 use Rattle.playback.specs.declared.Sent.{Sent}
 use Rattle.playback.specs.declared.Playback.{Playback}
-use Rattle.playback.specs.State.{isUnanswered, blankSent}
+use Rattle.playback.specs.State.{answerNone, isUnanswered, blankSent}
+use Rattle.playback.proofs.Framing.{waiting-few}
 use Rattle.playback.specs.Frames.{frameOf, framed, waiting, filledOf, framesOf, waitingOf}
 use Rattle.playback.proofs.Fill.{nine}
 use Rattle.replay.specs.Run.{Whole, sentAt, InFrames}
@@ -44,16 +44,8 @@ framed-split (suc n) (c ∷ cs) (s ∷ ss) (suc i) a h k e =
     go true x y z q = ap (λ (l : List ℕ). frameOf s (c .tan) ++ l) q
     go false x y z q = q
 
-pub waiting-few : (cs : List Sent) → waiting cs ≤ length cs
-waiting-few [] = omega arith
-waiting-few (c ∷ cs) = go (isUnanswered c) (waiting-few cs)
-  where
-    go : (b : Bool) → waiting cs ≤ length cs → cond b (suc (waiting cs)) (waiting cs) ≤ suc (length cs)
-    go true h = omega arith
-    go false h = omega arith
-
 -- A STEP THAT HAS LEFT AND IS NOT ANSWERED STANDS IN THE FRAMES, WITH ITS OWN SLOT, FUNCTION, STATE, TAN AND VALUE
-pub in-frames : (sequence : Sequence) → Whole sequence → (p : Playback) → Good p → (i : ℕ) → i < p .sent → sentAt p i .answer ≡ 0
+pub in-frames : (sequence : Sequence) → Whole sequence → (p : Playback) → Good p → (i : ℕ) → i < p .sent → sentAt p i .answer ≡ answerNone
     → InFrames sequence p i (frameOf (getD (sequence .steps) i blankStep) (sentAt p i .tan))
 unfolding framesOf filledOf waitingOf
 in-frames sequence whole p g i h w =
@@ -86,6 +78,6 @@ whose (suc n) (c ∷ cs) k h = go (isUnanswered c) refl (λ j l. whose n cs j l)
 
 -- each of the frames that are counted is that of a step that has left and is not answered
 pub whose-frame : (p : Playback) → Good p → (k : ℕ) → k < waitingOf (p .sent) (p .commands)
-    → (i : ℕ) × (i < p .sent) × ((sentAt p i .answer ≡ 0) × (waitingOf i (p .commands) ≡ k))
+    → (i : ℕ) × (i < p .sent) × ((sentAt p i .answer ≡ answerNone) × (waitingOf i (p .commands) ≡ k))
 unfolding waitingOf
 whose-frame p g k h = let r = whose (p .sent) (p .commands) k h in (r .0, r .1, (eqb-true _ _ (r .2 .0), r .2 .1))

@@ -1,5 +1,4 @@
 -- What stays of a step that has left, and the tick at which it leaves.
--- Assumes nothing.
 use mathlib.Core.Path.{_≡_, refl, ap, _∙_, subst}
 use mathlib.Core.Bool.{Bool, true, false}
 use mathlib.Core.List.{List, [], _∷_, _++_}
@@ -7,19 +6,19 @@ use Prim.Native.Nat.{ℕ, suc, _+_, _≤_, _<_}
 use native.Mathlib.Decide.{decLe}
 use native.Mathlib.Omega.{arith}
 use lib.Seq.{getD-set-same, getD-set-other}
-use Rattle.message.specs.Fields.{numberOf}
+use Rattle.message.specs.Fields.{statusNumber}
 use Rattle.message.specs.declared.Reply.{Reply}
 use Rattle.arrays.specs.Arrays.{more}
 use Rattle.sequence.specs.Sequence.{lengthOf}
 use Rattle.sequence.specs.declared.Sequence.{Sequence}
 use Rattle.playback.specs.declared.Sent.{Sent}
 use Rattle.playback.specs.declared.Playback.{Playback}
-use Rattle.playback.specs.State.{blankSent}
-use Rattle.playback.specs.Tick.{countedOf, doesStop, doesLeave, nextTan, leftOf}
+use Rattle.playback.specs.State.{answerNone, blankSent}
+use Rattle.playback.specs.Tick.{countedPlayback, doesStop, doesLeave, nextTan, afterLeaving}
 use Rattle.playback.specs.Answer.{withAnswer}
 use Rattle.playback.specs.Answer as ans
 use Rattle.playback.proofs.Leaves.{leaves-within}
-use Rattle.replay.specs.Run.{Event, tick, answer, message, ends, State, going, done, aborted, stepOf, runFrom, Whole, Fair, sentAt}
+use Rattle.replay.specs.Run.{PlaybackEvent, tick, answer, message, ends, State, going, done, aborted, stepOf, playRunFrom, Whole, Fair, sentAt}
 use Rattle.replay.proofs.Cells.{marked-left, marked-tan}
 use Rattle.replay.proofs.Follows.{tickState, tick-shape, Verdict, nothing, fails, finishes, marks, answerState, answer-shape, matched, verdictOf, Good, Sound, ticks-counted, FairOne, fair-head, fair-tail, keeps}
 
@@ -31,11 +30,11 @@ Holds i x t (done p) = Unit {0}
 Holds i x t aborted = Unit {0}
 
 module _ (i x t : ℕ) where
-  holds-tick : (a b : Bool) (p : Playback) (mm tan : ℕ) → Holds i x t (going p tan) → Holds i x t (tickState a b (countedOf p mm) tan)
-  unfolding countedOf leftOf
+  holds-tick : (a b : Bool) (p : Playback) (mm tan : ℕ) → Holds i x t (going p tan) → Holds i x t (tickState a b (countedPlayback p mm) tan)
+  unfolding countedPlayback afterLeaving
   holds-tick true b p mm tan h = tt
   holds-tick false true p mm tan h =
-      let o = getD-set-other (p .commands) (p .sent) i (record { tan = nextTan tan; answer = 0; left = more (p .ticks) 1 }) blankSent (λ e. omega (arith, h .0)) in
+      let o = getD-set-other (p .commands) (p .sent) i (record { tan = nextTan tan; answer = answerNone; left = more (p .ticks) 1 }) blankSent (λ e. omega (arith, h .0)) in
       (omega (arith, h .0), ap (λ (c : Sent). c .tan) o ∙ h .1, ap (λ (c : Sent). c .left) o ∙ h .2)
   holds-tick false false p mm tan h = h
 
@@ -47,17 +46,17 @@ module _ (i x t : ℕ) where
   holds-answer marks p j a tan h = (h .0, marked-tan (p .commands) j i a ∙ h .1, marked-left (p .commands) j i a ∙ h .2)
 
   module _ (sequence : Sequence) where
-    holds-step : (s : State) (e : Event) → Holds i x t s → Holds i x t (stepOf sequence s e)
+    holds-step : (s : State) (e : PlaybackEvent) → Holds i x t s → Holds i x t (stepOf sequence s e)
     holds-step (done p) e h = tt
     holds-step aborted e h = tt
-    holds-step (going p tan) (tick mm) h = rw tick-shape (holds-tick (doesStop (countedOf p mm)) (doesLeave (countedOf p mm) (sequence .steps) (lengthOf sequence)) p mm tan h)
+    holds-step (going p tan) (tick mm) h = rw tick-shape (holds-tick (doesStop (countedPlayback p mm)) (doesLeave (countedPlayback p mm) (sequence .steps) (lengthOf sequence)) p mm tan h)
     holds-step (going p tan) (answer slot reply) h =
         rw answer-shape
-        (holds-answer (verdictOf sequence p slot reply) p (matched sequence p slot reply) (ans.markOf (numberOf (reply .status))) tan h)
+        (holds-answer (verdictOf sequence p slot reply) p (matched sequence p slot reply) (ans.answerFrom (statusNumber (reply .status))) tan h)
     holds-step (going p tan) message h = h
     holds-step (going p tan) ends h = tt
 
-    pub holds : (es : List Event) (s : State) → Holds i x t s → Holds i x t (runFrom sequence s es)
+    pub holds : (es : List PlaybackEvent) (s : State) → Holds i x t s → Holds i x t (playRunFrom sequence s es)
     holds [] s h = h
     holds (e ∷ es) s h = holds es (stepOf sequence s e) (holds-step s e h)
 
@@ -68,14 +67,14 @@ sentOf (going p tan) = p .sent
 sentOf (done p) = 0
 sentOf aborted = 0
 
-pub run-append : (sequence : Sequence) (a b : List Event) (s : State) → runFrom sequence s (a ++ b) ≡ runFrom sequence (runFrom sequence s a) b
+pub run-append : (sequence : Sequence) (a b : List PlaybackEvent) (s : State) → playRunFrom sequence s (a ++ b) ≡ playRunFrom sequence (playRunFrom sequence s a) b
 run-append sequence [] b s = refl
 run-append sequence (e ∷ a) b s = run-append sequence a b (stepOf sequence s e)
 
-pub resume : (sequence : Sequence) (s r : State) (es a b : List Event) (mm : ℕ) → es ≡ a ++ tick mm ∷ b
-    → stepOf sequence (runFrom sequence s a) (tick mm) ≡ r → runFrom sequence s es ≡ runFrom sequence r b
+pub resume : (sequence : Sequence) (s r : State) (es a b : List PlaybackEvent) (mm : ℕ) → es ≡ a ++ tick mm ∷ b
+    → stepOf sequence (playRunFrom sequence s a) (tick mm) ≡ r → playRunFrom sequence s es ≡ playRunFrom sequence r b
 resume sequence s r es a b mm e f =
-    ap (λ (l : List Event). runFrom sequence s l) e ∙ run-append sequence a (tick mm ∷ b) s ∙ ap (λ (x : State). runFrom sequence x b) f
+    ap (λ (l : List PlaybackEvent). playRunFrom sequence s l) e ∙ run-append sequence a (tick mm ∷ b) s ∙ ap (λ (x : State). playRunFrom sequence x b) f
 
 -- a tick of the playback p lets step i leave
 pub record Leaving (sequence : Sequence) (p : Playback) (tan mm i : ℕ) : Type 0 where
@@ -84,34 +83,34 @@ pub record Leaving (sequence : Sequence) (p : Playback) (tan mm i : ℕ) : Type 
   pub now : stepOf sequence (going p tan) (tick mm) ≡ going after (nextTan tan)
   pub one : after .sent ≡ suc i
   pub kept : Good after
-  pub cell : sentAt after i ≡ record { tan = nextTan tan; answer = 0; left = suc (p .ticks) }
+  pub cell : sentAt after i ≡ record { tan = nextTan tan; answer = answerNone; left = suc (p .ticks) }
 
-pub record First (sequence : Sequence) (s : State) (es : List Event) (i : ℕ) : Type 0 where
-  pub earlier : List Event
+pub record First (sequence : Sequence) (s : State) (es : List PlaybackEvent) (i : ℕ) : Type 0 where
+  pub earlier : List PlaybackEvent
   pub mm : ℕ
-  pub later : List Event
+  pub later : List PlaybackEvent
   pub split : es ≡ earlier ++ tick mm ∷ later
   pub fair : Fair earlier
   pub before : Playback
   pub tan : ℕ
-  pub was : runFrom sequence s earlier ≡ going before tan
+  pub was : playRunFrom sequence s earlier ≡ going before tan
   pub good : Good before
   pub leaving : Leaving sequence before tan mm i
 
 module _ (sequence : Sequence) (whole : Whole sequence) (i : ℕ) where
   pub leaving-tick : (p : Playback) (g : Good p) (mm tan : ℕ) → mm ≤ 65535 → p .sent ≤ i → i < sentOf (stepOf sequence (going p tan) (tick mm)) → Leaving sequence p tan mm i
-  unfolding countedOf leftOf
+  unfolding countedPlayback afterLeaving
   leaving-tick p g mm tan f h k =
-      go (doesStop (countedOf p mm)) (doesLeave (countedOf p mm) (sequence .steps) (lengthOf sequence)) (tick-shape p sequence tan mm) (leaves-within (countedOf p mm) (sequence .steps) (lengthOf sequence))
+      go (doesStop (countedPlayback p mm)) (doesLeave (countedPlayback p mm) (sequence .steps) (lengthOf sequence)) (tick-shape p sequence tan mm) (leaves-within (countedPlayback p mm) (sequence .steps) (lengthOf sequence))
       (subst (λ (s : State). i < sentOf s) (tick-shape p sequence tan mm) k)
     where
-      go : (a b : Bool) → stepOf sequence (going p tan) (tick mm) ≡ tickState a b (countedOf p mm) tan → (b ≡ true → countedOf p mm .sent < 64)
-          → i < sentOf (tickState a b (countedOf p mm) tan) → Leaving sequence p tan mm i
+      go : (a b : Bool) → stepOf sequence (going p tan) (tick mm) ≡ tickState a b (countedPlayback p mm) tan → (b ≡ true → countedPlayback p mm .sent < 64)
+          → i < sentOf (tickState a b (countedPlayback p mm) tan) → Leaving sequence p tan mm i
       go true b e w l = absurd (omega arith)
       go false true e w l =
           let z : p .sent ≡ i = omega arith in
           record {
-            after = leftOf (countedOf p mm) (nextTan tan);
+            after = afterLeaving (countedPlayback p mm) (nextTan tan);
             none = z;
             now = e;
             one = omega arith;
@@ -130,9 +129,9 @@ module _ (sequence : Sequence) (whole : Whole sequence) (i : ℕ) where
   -- an answer lets no step leave
   pub answer-sent : (p : Playback) (tan slot : ℕ) (reply : Reply) → sentOf (stepOf sequence (going p tan) (answer slot reply)) ≤ p .sent
   answer-sent p tan slot reply =
-      rw answer-shape (same-sent (verdictOf sequence p slot reply) p (matched sequence p slot reply) (ans.markOf (numberOf (reply .status))) tan)
+      rw answer-shape (same-sent (verdictOf sequence p slot reply) p (matched sequence p slot reply) (ans.answerFrom (statusNumber (reply .status))) tan)
 
-  here : (s : State) (e : Event) (es : List Event) → Sound s → FairOne e → sentOf s ≤ i → i < sentOf (stepOf sequence s e) → First sequence s (e ∷ es) i
+  here : (s : State) (e : PlaybackEvent) (es : List PlaybackEvent) → Sound s → FairOne e → sentOf s ≤ i → i < sentOf (stepOf sequence s e) → First sequence s (e ∷ es) i
   here (done p) e es g f h k = absurd (omega arith)
   here aborted e es g f h k = absurd (omega arith)
   here (going p tan) (tick mm) es g f h k =
@@ -140,25 +139,25 @@ module _ (sequence : Sequence) (whole : Whole sequence) (i : ℕ) where
   here (going p tan) (answer slot reply) es g f h k =
       absurd (omega (
         arith,
-        same-sent (verdictOf sequence p slot reply) p (matched sequence p slot reply) (ans.markOf (numberOf (reply .status))) tan,
+        same-sent (verdictOf sequence p slot reply) p (matched sequence p slot reply) (ans.answerFrom (statusNumber (reply .status))) tan,
         subst (λ (s : State). i < sentOf s) (answer-shape sequence p slot reply tan) k,
       ))
   here (going p tan) message es g f h k = absurd (omega arith)
   here (going p tan) ends es g f h k = absurd (omega arith)
 
-  fair-cons : (e : Event) (es : List Event) → FairOne e → Fair es → Fair (e ∷ es)
+  fair-cons : (e : PlaybackEvent) (es : List PlaybackEvent) → FairOne e → Fair es → Fair (e ∷ es)
   fair-cons (tick mm) es f h = (f .0, h)
   fair-cons (answer a r) es f h = h
   fair-cons message es f h = h
   fair-cons ends es f h = h
 
-  pub find-first : (es : List Event) (s : State) → Sound s → Fair es → sentOf s ≤ i → i < sentOf (runFrom sequence s es) → First sequence s es i
+  pub find-first : (es : List PlaybackEvent) (s : State) → Sound s → Fair es → sentOf s ≤ i → i < sentOf (playRunFrom sequence s es) → First sequence s es i
   find-first [] s g f h k = absurd (omega arith)
   find-first (e ∷ es) s g f h k =
       go (decLe (suc i) (sentOf (stepOf sequence s e))) (find-first es (stepOf sequence s e) (keeps sequence whole s e (fair-head e es f) g) (fair-tail e es f))
     where
       go : Dec (i < sentOf (stepOf sequence s e))
-          → (sentOf (stepOf sequence s e) ≤ i → i < sentOf (runFrom sequence (stepOf sequence s e) es) → First sequence (stepOf sequence s e) es i)
+          → (sentOf (stepOf sequence s e) ≤ i → i < sentOf (playRunFrom sequence (stepOf sequence s e) es) → First sequence (stepOf sequence s e) es i)
           → First sequence s (e ∷ es) i
       go (yes a) r = here s e es g (fair-head e es f) h a
       go (no a) r =
@@ -167,7 +166,7 @@ module _ (sequence : Sequence) (whole : Whole sequence) (i : ℕ) where
             earlier = e ∷ x .earlier;
             mm = x .mm;
             later = x .later;
-            split = ap (λ (l : List Event). e ∷ l) (x .split);
+            split = ap (λ (l : List PlaybackEvent). e ∷ l) (x .split);
             fair = fair-cons e (x .earlier) (fair-head e es f) (x .fair);
             before = x .before;
             tan = x .tan;

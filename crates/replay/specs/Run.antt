@@ -1,5 +1,4 @@
 -- Runs of a playback, event by event, by the definitions that the calls of crate `playback` meet: `tickOf` and `answeredOf`.
--- Assumes nothing: these are definitions.
 use Prim.Native.Nat.{ℕ, zero, suc, _+_, _-_, _*_, _≤_, _<_}
 use mathlib.Core.Path.{_≡_}
 use mathlib.Core.Bool.{Bool, _&&_}
@@ -8,29 +7,25 @@ use lib.Dec.{T, eqb, ltb}
 use lib.ListN.{length, getD, take, drop}
 use Rattle.octets.specs.Pick.{pick}
 use Rattle.message.specs.declared.Reply.{Reply}
-use Rattle.sequence.specs.Sequence.{blankStep, lengthOf}
+use Rattle.sequence.specs.Sequence.{mostSteps, lastTick, blankStep, lengthOf}
 use Rattle.sequence.specs.declared.Sequence.{Sequence}
-use Rattle.playback.specs.declared.Sent.{Sent}
-use Rattle.playback.specs.declared.Playback.{Playback}
-use Rattle.playback.specs.declared.Ticked.{Ticked}
-use Rattle.playback.specs.declared.Answered.{Answered}
-use Rattle.playback.specs.State.{blankSent, blankPlayback}
-use Rattle.playback.specs.Tick.{isDue, tickOf, nextTan}
+use Rattle.playback.specs.{declared.Sent.Sent, declared.Playback.Playback, declared.Ticked.Ticked, declared.Answered.Answered, Answer.answeredOf}
+use Rattle.playback.specs.State.{answerNone, goesOn, toReady, toAbort, blankSent, blankPlayback}
+use Rattle.playback.specs.Tick.{answerTicks, isDue, tickOf, nextTan}
 use Rattle.playback.specs.Frames.{frameOf, framesOf, waitingOf}
-use Rattle.playback.specs.Answer.{answeredOf}
-use Rattle.ticks.specs.Playback.{sum}
+use Rattle.ticks.specs.Queue.{sum}
 
 -- ---- events
 
-pub data Event : Type 0 where
+pub data PlaybackEvent : Type 0 where
   -- an accepted tick, and the millimetres that it brings
-  tick : ℕ → Event
+  tick : ℕ → PlaybackEvent
   -- an E.7 of the client in this slot
-  answer : ℕ → Reply → Event
+  answer : ℕ → Reply → PlaybackEvent
   -- what the playback takes no notice of
-  message : Event
+  message : PlaybackEvent
   -- what aborts it from outside: the operator's word, an E.3, a client lost
-  ends : Event
+  ends : PlaybackEvent
 
 -- ---- states
 
@@ -42,14 +37,14 @@ pub data State : Type 0 where
   aborted : State
 
 unfoldable pub afterTick : Ticked → State
-afterTick r = pick (eqb (r .ended) 0) (going (r .playback) (r .tan)) aborted
+afterTick r = pick (eqb (r .end) goesOn) (going (r .playback) (r .tan)) aborted
 
 unfoldable pub afterAnswer : ℕ → Answered → State
-afterAnswer tan r = pick (eqb (r .over) 1) (done (r .playback)) (pick (eqb (r .over) 2) aborted (going (r .playback) tan))
+afterAnswer tan r = pick (eqb (r .end) toReady) (done (r .playback)) (pick (eqb (r .end) toAbort) aborted (going (r .playback) tan))
 
 -- ---- runs
 
-abbrev pub stepOf : Sequence → State → Event → State
+abbrev pub stepOf : Sequence → State → PlaybackEvent → State
 stepOf sequence (done p) e = done p
 stepOf sequence aborted e = aborted
 stepOf sequence (going p tan) (tick mm) = afterTick (tickOf p sequence tan mm)
@@ -57,13 +52,13 @@ stepOf sequence (going p tan) (answer slot reply) = afterAnswer tan (answeredOf 
 stepOf sequence (going p tan) message = going p tan
 stepOf sequence (going p tan) ends = aborted
 
-abbrev pub runFrom : Sequence → State → List Event → State
-runFrom sequence s [] = s
-runFrom sequence s (e ∷ es) = runFrom sequence (stepOf sequence s e) es
+abbrev pub playRunFrom : Sequence → State → List PlaybackEvent → State
+playRunFrom sequence s [] = s
+playRunFrom sequence s (e ∷ es) = playRunFrom sequence (stepOf sequence s e) es
 
 -- from the start, after a last command with this TAN
-abbrev pub run : Sequence → ℕ → List Event → State
-run sequence tan es = runFrom sequence (going blankPlayback tan) es
+abbrev pub playRun : Sequence → ℕ → List PlaybackEvent → State
+playRun sequence tan es = playRunFrom sequence (going blankPlayback tan) es
 
 -- the playback lasts
 abbrev pub Going : State → Type 0
@@ -74,9 +69,9 @@ Going aborted = ⊥
 -- ---- what calls give: a sequence in an array of 64, and ticks of at most 65,535 mm
 
 abbrev pub Whole : Sequence → Type 0
-Whole sequence = length (sequence .steps) ≡ 64
+Whole sequence = length (sequence .steps) ≡ mostSteps
 
-abbrev pub Fair : List Event → Type 0
+abbrev pub Fair : List PlaybackEvent → Type 0
 Fair [] = Unit {0}
 Fair (tick mm ∷ es) = (mm ≤ 65535) × Fair es
 Fair (answer slot reply ∷ es) = Fair es
@@ -86,7 +81,7 @@ Fair (ends ∷ es) = Fair es
 -- ---- what is said of a run
 
 -- "Number the accepted ticks of a playback from 1": the millimetres of the ticks, in order
-abbrev pub ticksOf : List Event → List ℕ
+abbrev pub ticksOf : List PlaybackEvent → List ℕ
 ticksOf [] = []
 ticksOf (tick mm ∷ es) = mm ∷ ticksOf es
 ticksOf (answer slot reply ∷ es) = ticksOf es
@@ -98,14 +93,14 @@ abbrev pub sentAt : Playback → ℕ → Sent
 sentAt p i = getD (p .commands) i blankSent
 
 -- the playback lasts, and step i has left, at tick t
-abbrev pub LeftAt : State → ℕ → ℕ → Type 0
-LeftAt (going p tan) i t = (i < p .sent) × (sentAt p i .left ≡ t)
-LeftAt (done p) i t = ⊥
-LeftAt aborted i t = ⊥
+abbrev pub HasLeftAt : State → ℕ → ℕ → Type 0
+HasLeftAt (going p tan) i t = (i < p .sent) × (sentAt p i .left ≡ t)
+HasLeftAt (done p) i t = ⊥
+HasLeftAt aborted i t = ⊥
 
 -- step i has left, and is answered
 abbrev pub HasAnswer : Playback → ℕ → Type 0
-HasAnswer p i = (i < p .sent) × (sentAt p i .answer ≡ 0 → ⊥)
+HasAnswer p i = (i < p .sent) × (sentAt p i .answer ≡ answerNone → ⊥)
 
 abbrev pub AnsweredAt : State → ℕ → Type 0
 AnsweredAt (going p tan) i = HasAnswer p i
@@ -134,22 +129,22 @@ pub record Latest (sequence : Sequence) (mms : List ℕ) (i t : ℕ) : Type 0 wh
 -- steps are before it, is these bytes
 pub record InFrames (sequence : Sequence) (p : Playback) (i : ℕ) (bytes : List ℕ) : Type 0 where
   pub has-left : i < p .sent
-  pub waits : sentAt p i .answer ≡ 0
+  pub waits : sentAt p i .answer ≡ answerNone
   pub frame : take 9 (drop (waitingOf i (p .commands) * 9) (framesOf p (sequence .steps))) ≡ bytes
 
 -- the run comes to a tick, the t-th, before which i steps have left, and after which step i stands in the frames with its own bytes and the next TAN
-pub record FirstFrame (sequence : Sequence) (tan : ℕ) (es : List Event) (i t : ℕ) : Type 0 where
-  pub earlier : List Event
+pub record FirstFrame (sequence : Sequence) (tan : ℕ) (es : List PlaybackEvent) (i t : ℕ) : Type 0 where
+  pub earlier : List PlaybackEvent
   pub mm : ℕ
-  pub later : List Event
+  pub later : List PlaybackEvent
   pub split : es ≡ earlier ++ tick mm ∷ later
   pub number : length (ticksOf earlier) + 1 ≡ t
   pub before : Playback
   pub last : ℕ
-  pub was : run sequence tan earlier ≡ going before last
+  pub was : playRun sequence tan earlier ≡ going before last
   pub none : before .sent ≡ i
   pub after : Playback
-  pub now : run sequence tan (earlier ++ tick mm ∷ []) ≡ going after (nextTan last)
+  pub now : playRun sequence tan (earlier ++ tick mm ∷ []) ≡ going after (nextTan last)
   pub frame : InFrames sequence after i (frameOf (getD (sequence .steps) i blankStep) (nextTan last))
 
 -- the TAN, raised n times
@@ -163,12 +158,12 @@ pub record Raised (start : ℕ) (p : Playback) (tan : ℕ) : Type 0 where
   pub each : (i : ℕ) → i < p .sent → sentAt p i .tan ≡ raised start (suc i)
 
 -- why event e ends the playback p
-pub data Cause (sequence : Sequence) (p : Playback) : Event → Type 0 where
+pub data PlaybackCause (sequence : Sequence) (p : Playback) : PlaybackEvent → Type 0 where
   -- from outside
-  outside : Cause sequence p ends
+  outside : PlaybackCause sequence p ends
   -- an answer: the last step done, or an error
-  answered : (slot : ℕ) (reply : Reply) → (answeredOf p sequence slot reply .over ≡ 0 → ⊥) → Cause sequence p (answer slot reply)
+  answered : (slot : ℕ) (reply : Reply) → (answeredOf p sequence slot reply .end ≡ goesOn → ⊥) → PlaybackCause sequence p (answer slot reply)
   -- tick 36,000
-  tooLong : (mm : ℕ) → 36000 ≤ p .ticks + 1 → Cause sequence p (tick mm)
+  tooLong : (mm : ℕ) → lastTick ≤ p .ticks + 1 → PlaybackCause sequence p (tick mm)
   -- a step with no answer 16 ticks after it left
-  noAnswer : (mm i : ℕ) → i < p .sent → sentAt p i .answer ≡ 0 → sentAt p i .left + 16 ≤ p .ticks + 1 → Cause sequence p (tick mm)
+  noAnswer : (mm i : ℕ) → i < p .sent → sentAt p i .answer ≡ answerNone → sentAt p i .left + answerTicks ≤ p .ticks + 1 → PlaybackCause sequence p (tick mm)

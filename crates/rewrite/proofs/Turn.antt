@@ -1,5 +1,4 @@
 -- A turn of the loop that rewrites a pool: what is to be stored from the start is what is to be stored from here.
--- Assumes nothing.
 use Prim.Native.Nat.{ℕ, _+_, _≤_, _<_}
 use native.Mathlib.Nat.{zero-add}
 use native.Mathlib.Omega.{arith}

@@ -1,10 +1,12 @@
 // A pool is taken apart object by object and written again.
 ghost use mathlib.Core.Path.{_≡_};
-ghost use mathlib.Core.List.{_++_};
 ghost use Prim.Native.Nat.{_≤_};
-ghost use lib.ListN.{length, drop};
+ghost use lib.ListN.{length};
 ghost use Rattle.pool.specs.Pool.{verdictOf};
-ghost use Rattle.rewrite.specs.Rewrite.{rewriteAnswer, rewriteOut};
+ghost use Rattle.rewrite.specs.Rewrite.{again, rewriteAnswer, rewriteOut};
+use octets::numbers::DONE;
+use octets::numbers::POOL_REFUSED;
+use octets::numbers::TOO_SHORT;
 
 // The number that the call gives; with 6 the code of D.9 and the object that it is about, else 0 and 0.
 #[repr(C)]
@@ -17,7 +19,7 @@ pub struct Rewritten {
 // Each object in its order, read at its place and written at the same place of out.
 fn rewrite_all(pool: &[u8], out: &mut [u8])
     requires { ⌜ (verdictOf (now pool) .code ≡ 0) × (length (now pool) ≤ length (now out)) ⌝ }
-    ensures { λ _. ⌜ now (out .exit) ≡ now (pool .entry) ++ drop (length (now (pool .entry))) (now (out .entry)) ⌝ }
+    ensures { λ _. ⌜ now (out .exit) ≡ again (now (pool .entry)) (now (out .entry)) ⌝ }
 {
     let mut at: usize = 0;
     while at < pool.len() {
@@ -35,22 +37,22 @@ pub fn rewrite(pool: &[u8], out: &mut [u8]) -> Rewritten
 {
     if out.len() < pool.len() {
         return Rewritten {
-            number: 1,
+            number: TOO_SHORT,
             code: 0,
             object: 0,
         };
     }
     let verdict = pool::check(pool);
-    if verdict.code != 0 {
+    if verdict.code != 0x00 {
         return Rewritten {
-            number: 6,
+            number: POOL_REFUSED,
             code: verdict.code,
             object: verdict.object,
         };
     }
     rewrite_all(pool, out);
     Rewritten {
-        number: 0,
+        number: DONE,
         code: 0,
         object: 0,
     }

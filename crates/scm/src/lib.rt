@@ -7,18 +7,19 @@ ghost use Rattle.octets.specs.Label.{blank};
 ghost use Rattle.pool.specs.Pool.{verdictOf};
 ghost use Rattle.objects.specs.Objects.{foundAt};
 ghost use Rattle.rewrite.specs.Rewrite.{rewriteAnswer, rewriteOut};
-ghost use Rattle.flat_object.specs.Flat.{flatOf};
-ghost use Rattle.message.specs.Messages.{writtenOf, leftOf};
+ghost use Rattle.flat_object.specs.Flat.{flatObject};
+ghost use Rattle.message.specs.Messages.{writtenOf, writtenOver};
 ghost use Rattle.message.specs.declared.Message.the-variants.{Transfer};
 ghost use Rattle.flat.specs.Flat.{messageFrom, readingOf};
 ghost use Rattle.profile.specs.Profile.{profileOf};
 ghost use Rattle.shown.specs.Value.{shownOf, Exact};
 ghost use Rattle.sequence.specs.Sequence.{lengthOf};
 ghost use Rattle.master.specs.States.{newMaster};
-ghost use Rattle.master.specs.Clients.{onOf, offOf, attachOf, wantOf, wantOut, reportOf, lostOf};
-ghost use Rattle.master.specs.Recording.{recordOf, stopOf, cancelOf, indicationOf, indicationOut};
-ghost use Rattle.master.specs.Playback.{startOf, abortOf, clientAbortOf, answerOf, answerOut};
-ghost use Rattle.master.specs.Tick.{tickOf, tickOut};
+ghost use Rattle.master.specs.Call.{outcomeOf, leavesOf};
+ghost use Rattle.master.specs.Clients.{onCall, offCall, attachCall, wantCall, reportCall, lostCall};
+ghost use Rattle.master.specs.Recording.{recordCall, stopCall, cancelCall, indicationCall};
+ghost use Rattle.master.specs.Playback.{startCall, abortCall, clientAbortCall, answerCall};
+ghost use Rattle.master.specs.Tick.{tickCall};
 ghost use Rattle.master.specs.Readers.{stateOf, slotView, stepView, clientView};
 use flat::Flat;
 use flat::FlatReading;
@@ -51,7 +52,7 @@ pub extern "C" fn scm_profile_of(bytes: &[u8]) -> Profile
 // The object at a place of a pool.
 #[no_mangle]
 pub extern "C" fn scm_object_at(bytes: &[u8], place: usize) -> FlatObject
-    ensures { λ r. ⌜ r ≡ flatOf place (foundAt (now (bytes .entry)) place) ⌝ }
+    ensures { λ r. ⌜ r ≡ flatObject place (foundAt (now (bytes .entry)) place) ⌝ }
 {
     flat_object::object_at(bytes, place)
 }
@@ -76,7 +77,7 @@ pub extern "C" fn scm_read(side: u32, bytes: &[u8]) -> FlatReading
 #[no_mangle]
 pub extern "C" fn scm_write(message: Flat, out: &mut [u8]) -> Written
     ensures { λ r. ⌜ r ≡ writtenOf (messageFrom message) (message .label) [] (length (now (out .entry))) ⌝ }
-    ensures { λ _. ⌜ now (out .exit) ≡ leftOf (messageFrom message) (message .label) [] (now (out .entry)) ⌝ }
+    ensures { λ _. ⌜ now (out .exit) ≡ writtenOver (messageFrom message) (message .label) [] (now (out .entry)) ⌝ }
 {
     flat::write(message, out)
 }
@@ -84,7 +85,7 @@ pub extern "C" fn scm_write(message: Flat, out: &mut [u8]) -> Written
 #[no_mangle]
 pub extern "C" fn scm_write_transfer(pool: &[u8], out: &mut [u8]) -> Written
     ensures { λ r. ⌜ r ≡ writtenOf Transfer blank (now (pool .entry)) (length (now (out .entry))) ⌝ }
-    ensures { λ _. ⌜ now (out .exit) ≡ leftOf Transfer blank (now (pool .entry)) (now (out .entry)) ⌝ }
+    ensures { λ _. ⌜ now (out .exit) ≡ writtenOver Transfer blank (now (pool .entry)) (now (out .entry)) ⌝ }
 {
     message::write_transfer(pool, out)
 }
@@ -116,21 +117,21 @@ pub extern "C" fn scm_master_new() -> Master
 
 #[no_mangle]
 pub extern "C" fn scm_master_on(master: Master) -> Outcome
-    ensures { λ r. ⌜ r ≡ onOf master ⌝ }
+    ensures { λ r. ⌜ r ≡ outcomeOf master (onCall master) ⌝ }
 {
     master.on()
 }
 
 #[no_mangle]
 pub extern "C" fn scm_master_off(master: Master) -> Outcome
-    ensures { λ r. ⌜ r ≡ offOf master ⌝ }
+    ensures { λ r. ⌜ r ≡ outcomeOf master (offCall master) ⌝ }
 {
     master.off()
 }
 
 #[no_mangle]
 pub extern "C" fn scm_master_attach(master: Master, slot: usize, name: u64, pool: &[u8]) -> Outcome
-    ensures { λ r. ⌜ r ≡ attachOf master slot name (now (pool .entry)) ⌝ }
+    ensures { λ r. ⌜ r ≡ outcomeOf master (attachCall master slot name (now (pool .entry))) ⌝ }
 {
     master.attach(slot, name, pool)
 }
@@ -138,8 +139,8 @@ pub extern "C" fn scm_master_attach(master: Master, slot: usize, name: u64, pool
 // E.2 out.
 #[no_mangle]
 pub extern "C" fn scm_master_enable(master: Master, slot: usize, out: &mut [u8]) -> Outcome
-    ensures { λ r. ⌜ r ≡ wantOf 1 master slot (length (now (out .entry))) ⌝ }
-    ensures { λ _. ⌜ now (out .exit) ≡ wantOut 1 master slot (now (out .entry)) ⌝ }
+    ensures { λ r. ⌜ r ≡ outcomeOf master (wantCall 1 master slot (now (out .entry))) ⌝ }
+    ensures { λ _. ⌜ now (out .exit) ≡ leavesOf (wantCall 1 master slot (now (out .entry))) ⌝ }
 {
     master.enable(slot, out)
 }
@@ -147,43 +148,43 @@ pub extern "C" fn scm_master_enable(master: Master, slot: usize, out: &mut [u8])
 // E.2 out.
 #[no_mangle]
 pub extern "C" fn scm_master_disable(master: Master, slot: usize, out: &mut [u8]) -> Outcome
-    ensures { λ r. ⌜ r ≡ wantOf 0 master slot (length (now (out .entry))) ⌝ }
-    ensures { λ _. ⌜ now (out .exit) ≡ wantOut 0 master slot (now (out .entry)) ⌝ }
+    ensures { λ r. ⌜ r ≡ outcomeOf master (wantCall 0 master slot (now (out .entry))) ⌝ }
+    ensures { λ _. ⌜ now (out .exit) ≡ leavesOf (wantCall 0 master slot (now (out .entry))) ⌝ }
 {
     master.disable(slot, out)
 }
 
 #[no_mangle]
 pub extern "C" fn scm_master_report(master: Master, slot: usize, report: u32) -> Outcome
-    ensures { λ r. ⌜ r ≡ reportOf master slot report ⌝ }
+    ensures { λ r. ⌜ r ≡ outcomeOf master (reportCall master slot report) ⌝ }
 {
     master.report(slot, report)
 }
 
 #[no_mangle]
 pub extern "C" fn scm_master_lost(master: Master, slot: usize) -> Outcome
-    ensures { λ r. ⌜ r ≡ lostOf master slot ⌝ }
+    ensures { λ r. ⌜ r ≡ outcomeOf master (lostCall master slot) ⌝ }
 {
     master.lost(slot)
 }
 
 #[no_mangle]
 pub extern "C" fn scm_master_record(master: Master) -> Outcome
-    ensures { λ r. ⌜ r ≡ recordOf master ⌝ }
+    ensures { λ r. ⌜ r ≡ outcomeOf master (recordCall master) ⌝ }
 {
     master.record()
 }
 
 #[no_mangle]
 pub extern "C" fn scm_master_stop(master: Master) -> Outcome
-    ensures { λ r. ⌜ r ≡ stopOf master ⌝ }
+    ensures { λ r. ⌜ r ≡ outcomeOf master (stopCall master) ⌝ }
 {
     master.stop()
 }
 
 #[no_mangle]
 pub extern "C" fn scm_master_cancel(master: Master) -> Outcome
-    ensures { λ r. ⌜ r ≡ cancelOf master ⌝ }
+    ensures { λ r. ⌜ r ≡ outcomeOf master (cancelCall master) ⌝ }
 {
     master.cancel()
 }
@@ -196,8 +197,8 @@ pub extern "C" fn scm_master_indication(
     msg: &[u8],
     out: &mut [u8],
 ) -> Outcome
-    ensures { λ r. ⌜ r ≡ indicationOf master slot (now (msg .entry)) (length (now (out .entry))) ⌝ }
-    ensures { λ _. ⌜ now (out .exit) ≡ indicationOut master slot (now (msg .entry)) (now (out .entry)) ⌝ }
+    ensures { λ r. ⌜ r ≡ outcomeOf master (indicationCall master slot (now (msg .entry)) (now (out .entry))) ⌝ }
+    ensures { λ _. ⌜ now (out .exit) ≡ leavesOf (indicationCall master slot (now (msg .entry)) (now (out .entry))) ⌝ }
 {
     master.indication(slot, msg, out)
 }
@@ -205,21 +206,21 @@ pub extern "C" fn scm_master_indication(
 // E.3 in.
 #[no_mangle]
 pub extern "C" fn scm_master_client_abort(master: Master, slot: usize, msg: &[u8]) -> Outcome
-    ensures { λ r. ⌜ r ≡ clientAbortOf master slot (now (msg .entry)) ⌝ }
+    ensures { λ r. ⌜ r ≡ outcomeOf master (clientAbortCall master slot (now (msg .entry))) ⌝ }
 {
     master.client_abort(slot, msg)
 }
 
 #[no_mangle]
 pub extern "C" fn scm_master_start(master: Master) -> Outcome
-    ensures { λ r. ⌜ r ≡ startOf master ⌝ }
+    ensures { λ r. ⌜ r ≡ outcomeOf master (startCall master) ⌝ }
 {
     master.start()
 }
 
 #[no_mangle]
 pub extern "C" fn scm_master_abort(master: Master) -> Outcome
-    ensures { λ r. ⌜ r ≡ abortOf master ⌝ }
+    ensures { λ r. ⌜ r ≡ outcomeOf master (abortCall master) ⌝ }
 {
     master.abort()
 }
@@ -227,8 +228,8 @@ pub extern "C" fn scm_master_abort(master: Master) -> Outcome
 // The frames out: the slot and E.6.
 #[no_mangle]
 pub extern "C" fn scm_master_tick(master: Master, mm: u32, out: &mut [u8]) -> Outcome
-    ensures { λ r. ⌜ r ≡ tickOf master mm (length (now (out .entry))) ⌝ }
-    ensures { λ _. ⌜ now (out .exit) ≡ tickOut master mm (now (out .entry)) ⌝ }
+    ensures { λ r. ⌜ r ≡ outcomeOf master (tickCall master mm (now (out .entry))) ⌝ }
+    ensures { λ _. ⌜ now (out .exit) ≡ leavesOf (tickCall master mm (now (out .entry))) ⌝ }
 {
     master.tick(mm, out)
 }
@@ -241,8 +242,8 @@ pub extern "C" fn scm_master_answer(
     msg: &[u8],
     out: &mut [u8],
 ) -> Outcome
-    ensures { λ r. ⌜ r ≡ answerOf master slot (now (msg .entry)) (length (now (out .entry))) ⌝ }
-    ensures { λ _. ⌜ now (out .exit) ≡ answerOut master slot (now (msg .entry)) (now (out .entry)) ⌝ }
+    ensures { λ r. ⌜ r ≡ outcomeOf master (answerCall master slot (now (msg .entry)) (now (out .entry))) ⌝ }
+    ensures { λ _. ⌜ now (out .exit) ≡ leavesOf (answerCall master slot (now (msg .entry)) (now (out .entry))) ⌝ }
 {
     master.answer(slot, msg, out)
 }

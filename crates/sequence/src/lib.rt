@@ -2,8 +2,15 @@
 ghost use mathlib.Core.Path.{_≡_};
 ghost use Rattle.sequence.specs.Sequence.{blankStep, blankSequence, lengthOf};
 use arrays::at_most;
-use client::Client;
-use client::blank_client;
+use client::ClientRecord;
+use client::SLOTS;
+use client::blank_record;
+
+// How many steps a recording, a sequence and a playback have room for.
+pub const MOST_STEPS: usize = 64;
+
+// The last tick of a recording and of a playback.
+pub const LAST_TICK: u32 = 36000;
 
 // distance is 0 where the mark is in ticks; any other number: in millimetres.
 #[repr(C)]
@@ -16,12 +23,12 @@ pub struct Step {
     pub mark: u32,
 }
 
-// The first count of steps are used, in the order of their start; clients stand by slot. Unused cells are blank.
+// The first count of steps are used, in the order of their start; records stand by slot. Unused cells are blank.
 #[repr(C)]
 pub struct Sequence {
     pub count: usize,
-    pub steps: [Step; 64],
-    pub clients: [Client; 8],
+    pub steps: [Step; MOST_STEPS],
+    pub records: [ClientRecord; SLOTS],
 }
 
 pub fn blank_step() -> Step
@@ -41,13 +48,13 @@ pub fn blank_sequence() -> Sequence
     ensures { λ r. ⌜ r ≡ blankSequence ⌝ }
 {
     let step = blank_step();
-    let client = blank_client();
-    let steps = [step; 64];
-    let clients = [client; 8];
+    let client = blank_record();
+    let steps = [step; MOST_STEPS];
+    let records = [client; SLOTS];
     Sequence {
         count: 0,
         steps,
-        clients,
+        records,
     }
 }
 
@@ -56,6 +63,6 @@ impl Sequence {
     pub fn len(self) -> usize
         ensures { λ r. ⌜ r ≡ lengthOf self ⌝ }
     {
-        at_most(self.count, 64)
+        at_most(self.count, MOST_STEPS)
     }
 }

@@ -1,4 +1,4 @@
--- The 32 bits of the scales that are finite and above zero are 1 to 7F7FFFFF. Each of these is q * 2 ^ k / 2 ^ 149, with at most 24 digits in q. Assumes nothing.
+-- The 32 bits of the scales that are finite and above zero are 1 to 7F7FFFFF. Each of these is q * 2 ^ k / 2 ^ 149, with at most 24 digits in q.
 use mathlib.Core.Path.{_≡_, refl, sym, _∙_}
 use Prim.Native.Nat.{ℕ, zero, suc, _+_, _*_, _/_, _%_, _^_, _<_}
 use native.Mathlib.Nat.{mul-pos}

@@ -1,4 +1,4 @@
--- The f64 product of a whole number and a scale is the exact fraction rounded once; below 2 ^ 29 that is the fraction itself. Assumes nothing.
+-- The f64 product of a whole number and a scale is the exact fraction rounded once; below 2 ^ 29 that is the fraction itself.
 use mathlib.Core.Path.{_≡_, refl, sym, ap, _∙_}
 use Prim.Native.Nat.{ℕ, zero, suc, _+_, _*_, _^_, _≤_, _<_}
 use native.Mathlib.Nat.{le-of-lt, lt-of-lt-of-le, lt-of-le-of-lt, zero-mul, mul-one, mul-comm, mul-assoc, mul-left-comm, mul-pos, mul-le-mul-left, mul-lt-mul-of-pos-right}
@@ -14,6 +14,7 @@ use lib.Ieee.Exact.{HasValue, round-exact}
 use lib.Ieee.Back.{round-whole}
 use lib.Ieee.Scale.{round-same}
 use lib.Ieee.Positive.{positive, num, den, den-pos, value→cross}
+use Rattle.octets.specs.Numbers.{wrongValue}
 use Rattle.shown.specs.Value.{sumOf, negative, productOf, shownOf, IsProduct, Exact}
 use Rattle.shown.proofs.Bits.{Parts}
 
@@ -84,5 +85,5 @@ unfolding ofBits
 zero-bits = refl
 
 pub refuses : (value : ℕ) (offset : ℤ) (x : Float) → positive x ≡ false
-    → (record { number = 4; value = ofBits binary64 0 } ≡ shownOf value offset x) × Exact value offset x (ofBits binary64 0)
+    → (record { number = wrongValue; value = ofBits binary64 0 } ≡ shownOf value offset x) × Exact value offset x (ofBits binary64 0)
 refuses value offset x e = rw (zero-bits, e) (refl, λ t. absurd t)

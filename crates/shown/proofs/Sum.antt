@@ -1,4 +1,4 @@
--- The machine's value + offset, at an i64, is the exact sum, and an f64 holds it. Assumes nothing.
+-- The machine's value + offset, at an i64, is the exact sum, and an f64 holds it.
 use mathlib.Core.Path.{_≡_, _∙_}
 use Prim.Native.Nat.{ℕ, suc, _-_, _^_, _<_}
 use native.Mathlib.Nat.{lt-trans}

@@ -8,6 +8,7 @@ use lib.Dec.{T}
 use lib.Ieee.{Float, nan, inf, fin, binary64, up, round}
 use lib.Ieee.Scale.{finite}
 use lib.Ieee.Positive.{positive, num, den}
+use Rattle.octets.specs.Numbers.{completed, wrongValue}
 use Rattle.shown.specs.declared.Shown.{Shown}
 
 -- "(value + offset) · scale, the sum exact"
@@ -40,5 +41,5 @@ Exact value offset scale x = T (positive scale) → natAbs (sumOf value offset) 
 abbrev pub shownOf : ℕ → ℤ → Float → Shown
 shownOf value offset scale =
     cond (positive scale)
-    (record { number = 0; value = productOf (sumOf value offset) scale })
-    (record { number = 4; value = fin false 0 (pos 0) })
+    (record { number = completed; value = productOf (sumOf value offset) scale })
+    (record { number = wrongValue; value = fin false 0 (pos 0) })

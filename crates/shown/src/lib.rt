@@ -3,7 +3,9 @@ ghost use mathlib.Core.Path.{_≡_};
 ghost use lib.Ieee.{binary32, ofBits};
 ghost use lib.Ieee.Positive.{positive};
 ghost use Rattle.shown.specs.Value.{shownOf, Exact};
-ghost use Rattle.shown.specs.Examples.{Examples};
+ghost use Rattle.shown.specs.Examples.{ShownExamples};
+use octets::numbers::DONE;
+use octets::numbers::WRONG_VALUE;
 
 // Number 0 and the shown value, or number 4 and value 0.
 #[repr(C)]
@@ -14,7 +16,7 @@ pub struct Shown {
 
 // "A scale not finite and above zero, as style 00 has it, gives 4 and value 0."
 const REFUSED: Shown = Shown {
-    number: 4,
+    number: WRONG_VALUE,
     value: 0.0,
 };
 
@@ -34,7 +36,7 @@ pub fn shown_bits(value: u32, offset: i32, scale: u32) -> Shown
         let sum = value as i64 + offset as i64;
         let product = sum as f64 * f32::from_bits(scale) as f64;
         Shown {
-            number: 0,
+            number: DONE,
             value: product,
         }
     } else {
@@ -56,5 +58,5 @@ pub fn shown_of(value: u32, offset: i32, scale: f32) -> Shown
 
 // The worked examples hold of the definitions that the contracts above cite.
 pub fn examples()
-    ensures { λ _. ⌜ Examples ⌝ }
+    ensures { λ _. ⌜ ShownExamples ⌝ }
 {}

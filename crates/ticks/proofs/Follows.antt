@@ -1,6 +1,5 @@
 -- A run of events follows the queue: what a playback that lasts has counted and sent is fixed by its ticks. Each event keeps
 -- what `Matches` says, and that is all that the theorems need.
--- Assumes nothing.
 use mathlib.Core.Path.{_≡_, refl, sym, ap, _∙_, subst}
 use mathlib.Core.Bool.{Bool, true, false, not, _||_, true≢false}
 use mathlib.Core.List.{List, [], _∷_, _++_}
@@ -8,7 +7,7 @@ use Prim.Native.Nat.{ℕ, zero, suc, _+_, _-_, _≤_, _<_}
 use native.Mathlib.Omega.{arith}
 use lib.Dec.{T, leb, leb→le, le→leb, nleb→lt}
 use lib.ListN.{length, take, drop, length-drop}
-use Rattle.ticks.specs.Playback.{Mark, ticks, millimetres, reaches, reached, Event, tick, answer, message, ends, Sent, Play, Playback, playing, over, start, stops, leave, atTick, answerOf, step, runFrom, run, tickList, sum, reachedAfter, leftAts}
+use Rattle.ticks.specs.Queue.{Mark, ticks, millimetres, reaches, reached, QueueEvent, tick, answer, message, ends, LeftStep, Play, Queue, playing, over, queueStart, stops, leave, atTick, answerOf, step, queueRunFrom, queueRun, tickList, sum, reachedAfter, leftAts}
 use Rattle.ticks.proofs.Queue.{push, gone}
 
 -- ---- once reached, a mark stays reached
@@ -47,20 +46,20 @@ tick-rest (x ∷ xs) (suc t) m rest e = tick-rest xs t m rest e
 
 -- ---- the steps that have left
 
-leftAts-append : (a b : List Sent) → leftAts (a ++ b) ≡ leftAts a ++ leftAts b
+leftAts-append : (a b : List LeftStep) → leftAts (a ++ b) ≡ leftAts a ++ leftAts b
 leftAts-append [] b = refl
 leftAts-append (s ∷ ss) b = ap (λ (l : List ℕ). s .left ∷ l) (leftAts-append ss b)
 
-pub leftAts-leave : (b : Bool) (t : ℕ) (ss : List Sent) → leftAts (leave b t ss) ≡ push b t (leftAts ss)
+pub leftAts-leave : (b : Bool) (t : ℕ) (ss : List LeftStep) → leftAts (leave b t ss) ≡ push b t (leftAts ss)
 leftAts-leave true t ss = leftAts-append ss (record { left = t; answered = false } ∷ [])
 leftAts-leave false t ss = refl
 
-pub leftAts-answer : (ss : List Sent) (i : ℕ) → leftAts (answerOf ss i) ≡ leftAts ss
+pub leftAts-answer : (ss : List LeftStep) (i : ℕ) → leftAts (answerOf ss i) ≡ leftAts ss
 leftAts-answer [] i = refl
 leftAts-answer (s ∷ ss) zero = refl
 leftAts-answer (s ∷ ss) (suc i) = ap (λ (l : List ℕ). s .left ∷ l) (leftAts-answer ss i)
 
-length-leftAts : (ss : List Sent) → length (leftAts ss) ≡ length ss
+length-leftAts : (ss : List LeftStep) → length (leftAts ss) ≡ length ss
 length-leftAts [] = refl
 length-leftAts (s ∷ ss) = ap suc (length-leftAts ss)
 
@@ -74,7 +73,7 @@ pub record Matches (marks : List Mark) (mms rest : List ℕ) (p : Play) : Type 0
   pub distance : p .moved ≡ sum (take (p .ticked) mms)
   pub queue : leftAts (p .sent) ≡ gone (reachedAfter marks mms) (p .ticked)
 
-abbrev pub Matched : List Mark → List ℕ → List ℕ → Playback → Type 0
+abbrev pub Matched : List Mark → List ℕ → List ℕ → Queue → Type 0
 Matched marks mms rest (playing p) = Matches marks mms rest p
 Matched marks mms rest over = Unit {0}
 
@@ -99,7 +98,7 @@ module _ (marks : List Mark) (mms : List ℕ) where
         queue = rw leftAts-leave (cc (d, length-leftAts (p .sent), h .queue));
       }
 
-  keeps : (rest : List Event) (s : Playback) (e : Event) → Matched marks mms (tickList (e ∷ rest)) s → Matched marks mms (tickList rest) (step marks s e)
+  keeps : (rest : List QueueEvent) (s : Queue) (e : QueueEvent) → Matched marks mms (tickList (e ∷ rest)) s → Matched marks mms (tickList rest) (step marks s e)
   keeps rest over e h = tt
   keeps rest (playing p) (tick m) h = keeps-tick (tickList rest) p m _ refl h
   keeps rest (playing p) (answer i) h =
@@ -107,9 +106,9 @@ module _ (marks : List Mark) (mms : List ℕ) where
   keeps rest (playing p) message h = h
   keeps rest (playing p) ends h = tt
 
-  keeps-all : (es : List Event) (s : Playback) → Matched marks mms (tickList es) s → Matched marks mms [] (runFrom marks s es)
+  keeps-all : (es : List QueueEvent) (s : Queue) → Matched marks mms (tickList es) s → Matched marks mms [] (queueRunFrom marks s es)
   keeps-all [] s h = h
   keeps-all (e ∷ es) s h = keeps-all es (step marks s e) (keeps es s e h)
 
-pub follows : (marks : List Mark) (es : List Event) → Matched marks (tickList es) [] (run marks es)
-follows marks es = keeps-all marks (tickList es) es start (record { short = omega arith; within = omega arith; ahead = refl; distance = refl; queue = refl })
+pub follows : (marks : List Mark) (es : List QueueEvent) → Matched marks (tickList es) [] (queueRun marks es)
+follows marks es = keeps-all marks (tickList es) es queueStart (record { short = omega arith; within = omega arith; ahead = refl; distance = refl; queue = refl })

@@ -1,6 +1,5 @@
 -- Steps that leave in order, one at a tick, each not before it is ready. `ready j t` says that step j is ready at tick t; once
 -- ready, it stays so. No events here, no counters: only who leaves when.
--- Assumes nothing.
 use mathlib.Core.Path.{_≡_, refl, sym, subst}
 use mathlib.Core.Logic.{_⊎_, inl, inr, _↔_}
 use mathlib.Core.Bool.{Bool, true, false}
@@ -12,7 +11,7 @@ use native.Mathlib.Omega.{arith}
 use lib.Dec.{T}
 use lib.ListN.{length, getD, length-append, List·getD-append}
 use lib.Seq.{getD-append-seam}
-use Rattle.ticks.specs.Playback.{before}
+use Rattle.ticks.specs.Queue.{before}
 
 -- the ticks at which steps left, in order: one more, t, if the test passes
 abbrev pub push : Bool → ℕ → List ℕ → List ℕ

@@ -1,2 +1,2 @@
-pub mod Playback
+pub mod Queue
 pub mod Promises

@@ -1,6 +1,5 @@
 -- What the walks over a window share: its type, its machine value, and how it is taken apart. A window is Copy: what it owns is had twice, one
 -- copy is kept whole for the exit, and of the other what the pool's slice owns goes to a callee on the slice and the place, beside the lifetime's token.
--- Assumes nothing.
 use Prim.Native.Nat.{_<_, _^_}
 use mathlib.Core.Path.{_≡_, refl}
 use mathlib.Core.List.{List, [], _∷_}

@@ -1,5 +1,4 @@
 -- `client::blank_slot` meets its contract.
--- Assumes nothing.
 use borrow.Author.Needs.{needs}
 use Rattle.client.specs.Clients.{blankSlot}
 use Rattle.client.proofs.blank_slot.Statement.{statement}

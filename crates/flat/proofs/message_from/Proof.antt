@@ -1,5 +1,4 @@
 -- `flat::message_from` meets its contract: the arm says which kind it is.
--- Assumes nothing.
 use mathlib.Core.Path.{sym, _∙_}
 use Rattle.octets.specs.Pick.{pick}
 use Rattle.message.specs.declared.Message.the-variants.{Nothing}

@@ -1,5 +1,4 @@
 -- `flat::promises` meets its contract, by the theorem.
--- Assumes nothing.
 use Rattle.flat.proofs.Again.{back-again}
 use Rattle.flat.proofs.promises.Statement.{statement}
 use Rattle.flat.proofs.promises.Tie as tie

@@ -1,5 +1,4 @@
 -- `flat::read` meets its contract: what its callees ensure.
--- Assumes nothing.
 use Rattle.flat.specs.Flat.{readingOf}
 use Rattle.flat.proofs.read.Statement.{statement}
 use Rattle.flat.proofs.read.Tie as tie

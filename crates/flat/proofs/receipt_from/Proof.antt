@@ -1,5 +1,4 @@
 -- `flat::receipt_from` meets its contract: the status is what its callee ensures.
--- Assumes nothing.
 use Rattle.flat.proofs.receipt_from.Statement.{statement}
 use Rattle.flat.proofs.receipt_from.Tie as tie
 

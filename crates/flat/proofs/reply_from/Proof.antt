@@ -1,5 +1,4 @@
 -- `flat::reply_from` meets its contract: the status is what its callee ensures.
--- Assumes nothing.
 use Rattle.flat.proofs.reply_from.Statement.{statement}
 use Rattle.flat.proofs.reply_from.Tie as tie
 

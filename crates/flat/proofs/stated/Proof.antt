@@ -1,5 +1,4 @@
 -- `flat::stated` meets its contract: the test says which it is.
--- Assumes nothing.
 use borrow.Author.Tests.{le-leb, lt-leb}
 use Rattle.octets.specs.Pick.{pick}
 use Rattle.flat.proofs.stated.Statement.{statement}

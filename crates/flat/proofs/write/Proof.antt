@@ -1,5 +1,4 @@
 -- `flat::write` meets its contract: the message is the one it holds.
--- Assumes nothing.
 use borrow.Author.Needs.{needs}
 use Rattle.flat.proofs.write.Statement.{statement}
 use Rattle.flat.proofs.write.Tie as tie

@@ -1,5 +1,4 @@
 -- `history::promises` meets its contract, by the theorems.
--- Assumes nothing.
 use Rattle.history.proofs.Runs.{promises}
 use Rattle.history.proofs.promises.Statement.{statement}
 use Rattle.history.proofs.promises.Tie as tie

@@ -1,5 +1,4 @@
 -- `message::pool_of` meets its contract: an empty slice has no code to leave out.
--- Assumes nothing.
 use mathlib.Core.Path.{_≡_, refl}
 use mathlib.Core.List.{List, [], _∷_}
 use Prim.Native.Nat.{ℕ, _-_, _≤_}

@@ -1,5 +1,4 @@
 -- `message::promises` meets its contract, by the theorems.
--- Assumes nothing.
 use Rattle.message.proofs.Back.{comes-back}
 use Rattle.message.proofs.Refuses.{refuses}
 use Rattle.message.proofs.Cases.{cases}

@@ -1,5 +1,4 @@
 -- `message::read` meets its contract: what its callees ensure, and the test, say which case of the definition holds.
--- Assumes nothing.
 use Rattle.octets.specs.Pick.{pick}
 use Rattle.message.specs.Messages.{readOf}
 use borrow.Author.Needs.{needs}

@@ -1,5 +1,4 @@
 -- `message::write` meets its contract: the form is the message's.
--- Assumes nothing.
 use borrow.Author.Needs.{needs}
 use Rattle.message.proofs.write.Statement.{statement}
 use Rattle.message.proofs.write.Tie as tie

@@ -1,5 +1,4 @@
 -- `message::write_transfer` meets its contract: the form is the transfer's.
--- Assumes nothing.
 use borrow.Author.Needs.{needs}
 use Rattle.message.proofs.write_transfer.Statement.{statement}
 use Rattle.message.proofs.write_transfer.Tie as tie

@@ -1,5 +1,4 @@
 -- `objects::object_at` meets its contract: the tests that led to a return say which case of the definition holds.
--- Assumes nothing.
 use mathlib.Core.Path.{sym, _∙_}
 use borrow.Author.Tests.{not-true, not-false}
 use Rattle.octets.specs.Pick.{pick}

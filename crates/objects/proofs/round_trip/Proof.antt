@@ -1,5 +1,4 @@
 -- `objects::round_trip` meets its contract: the theorems are proved in Trips.
--- Assumes nothing.
 use Rattle.objects.proofs.Trips.{round-trip}
 use Rattle.objects.proofs.round_trip.Statement.{statement}
 use Rattle.objects.proofs.round_trip.Tie as tie

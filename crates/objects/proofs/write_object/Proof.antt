@@ -1,5 +1,4 @@
 -- `objects::write_object` meets its contract: the tests that led to a return say which case of the definition holds.
--- Assumes nothing.
 use mathlib.Core.Path.{_≡_, sym, _∙_}
 use mathlib.Core.Bool.{true, false}
 use denote.Ref.{now}

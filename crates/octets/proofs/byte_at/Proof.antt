@@ -1,5 +1,4 @@
 -- `octets::byte_at` meets its contract: past the end the definition gives 0 too.
--- Assumes nothing.
 use borrow.Author.Needs.{needs}
 use lib.ListN.{List·getD-eq-default}
 use mathlib.Core.Path.{sym}

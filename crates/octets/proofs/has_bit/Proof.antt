@@ -1,5 +1,4 @@
 -- `octets::has_bit` meets its contract: the shift is the power of two that the definition names.
--- Assumes nothing.
 use mathlib.Core.Path.{refl}
 use borrow.Author.Needs.{needs}
 use Rattle.octets.specs.Bits.{hasBit}

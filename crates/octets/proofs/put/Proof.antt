@@ -1,5 +1,5 @@
 -- `octets::put` meets its contract. The loop's invariant: what is to be stored from the start is what is to be stored from here.
--- The measure is what is left of the width. Assumes nothing.
+-- The measure is what is left of the width.
 use Prim.Native.Nat.{ℕ, _+_, _-_, _≤_}
 use native.Mathlib.Omega.{arith}
 use mathlib.Core.Path.{_≡_, sym, _∙_, ap}

@@ -1,5 +1,4 @@
 -- `octets::put_byte` meets its contract: past the end a store leaves the list as it is.
--- Assumes nothing.
 use borrow.Author.Needs.{needs}
 use lib.Seq.{set-out}
 use mathlib.Core.Path.{sym}

@@ -1,5 +1,4 @@
 -- `octets::u16_at` meets its contract: a number is its low and its high bytes.
--- Assumes nothing.
 use native.Mathlib.Omega.{arith}
 use borrow.Author.Needs.{needs}
 use Rattle.octets.specs.Octets.{numberAt}

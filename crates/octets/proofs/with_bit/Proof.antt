@@ -1,5 +1,4 @@
 -- `octets::with_bit` meets its contract: a 1 shifted by less than 64 places loses nothing.
--- Assumes nothing.
 use native.Mathlib.Omega.{arith}
 use lib.Dec.{lit<}
 use lib.Pow.{shl-exact}

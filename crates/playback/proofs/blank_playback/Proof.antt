@@ -1,5 +1,4 @@
 -- `playback::blank_playback` meets its contract: nothing is counted, no step has left.
--- Assumes nothing.
 use mathlib.Core.Path.{refl}
 use Rattle.playback.specs.State.{blankPlayback}
 use Rattle.playback.proofs.blank_playback.Statement.{statement}

@@ -1,5 +1,4 @@
 -- `playback::frames` meets its contract: the whole buffer is copied.
--- Assumes nothing.
 use mathlib.Core.Path.{refl, sym, ap, _∙_}
 use native.Mathlib.Omega.{arith}
 use lib.ListN.{length}

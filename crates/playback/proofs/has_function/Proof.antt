@@ -1,5 +1,4 @@
 -- `playback::has_function` meets its contract.
--- Assumes nothing.
 use borrow.Author.Needs.{needs}
 use Rattle.sequence.specs.Sequence.{stepsOf}
 use Rattle.playback.specs.Answer.{hasFunction}

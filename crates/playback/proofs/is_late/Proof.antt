@@ -1,5 +1,4 @@
 -- `playback::is_late` meets its contract: the sum is taken in 64 bits.
--- Assumes nothing.
 use borrow.Author.Needs.{needs}
 use Rattle.playback.proofs.is_late.Statement.{statement}
 use Rattle.playback.proofs.is_late.Tie as tie

@@ -1,5 +1,4 @@
 -- `playback::next_tan` meets its contract.
--- Assumes nothing.
 use borrow.Author.Needs.{needs}
 use Rattle.octets.proofs.Tests.{tests}
 use Rattle.playback.specs.Tick.{nextTan}

@@ -1,5 +1,4 @@
 -- `playback::some_late` meets its contract: what is left to look at decides.
--- Assumes nothing.
 use mathlib.Core.Path.{_≡_, sym, _∙_}
 use Prim.Native.Nat.{_-_}
 use native.Mathlib.Omega.{arith}

@@ -1,6 +1,5 @@
 -- `plays::promises` meets its contract, by the theorems.
--- Assumes nothing.
-use Rattle.plays.proofs.Whole.{given-whole}
+use Rattle.plays.proofs.Runs.{given-whole}
 use Rattle.plays.proofs.Theorems.{starts, fixed, leaves-exactly, not-yet-due, calls-do-not-move, tans, ends-in-time, over-for-a-cause}
 use Rattle.plays.proofs.Replies.{replies}
 use Rattle.plays.proofs.Ends.{ends, sixteen}

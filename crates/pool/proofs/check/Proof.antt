@@ -1,5 +1,4 @@
 -- `pool::check` meets its contract: the tests that led to a return say which case of the definition holds.
--- Assumes nothing.
 use borrow.Author.Needs.{needs}
 use borrow.Author.Tests.{eq-eqb, ne-eqb, lt-ltb, le-ltb}
 use Rattle.octets.specs.Pick.{pick}

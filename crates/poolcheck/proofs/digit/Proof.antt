@@ -1,5 +1,4 @@
 -- `poolcheck::digit` meets its contract: the test that led to a return says which case of the definition holds.
--- Assumes nothing.
 use borrow.Author.Needs.{needs}
 use Rattle.octets.proofs.Tests.{tests}
 use Rattle.poolcheck.specs.Line.{digitOf}

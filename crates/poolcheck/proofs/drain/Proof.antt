@@ -1,5 +1,4 @@
 -- `poolcheck::drain` is safe and ends. The loop's invariant: the buffer keeps its length. The measure is the number of turns left.
--- Assumes nothing.
 use mathlib.Core.Path.{_≡_, sym, _∙_}
 use native.Mathlib.Omega.{arith}
 use lib.ListN.{length}

@@ -1,5 +1,4 @@
 -- `poolcheck::line` meets its contract: each digit is what `digit` ensures.
--- Assumes nothing.
 use borrow.Author.Needs.{needs}
 use Rattle.poolcheck.specs.Line.{lineOf}
 use Rattle.poolcheck.proofs.line.Statement.{statement}

@@ -1,8 +1,8 @@
 -- `profile::bits_of` meets its contract. The loop's invariant: the bits are the set of the IDs from here on.
--- The measure is the number of IDs left. Assumes nothing.
+-- The measure is the number of IDs left.
 use Prim.Native.Nat.{ℕ, _+_, _-_, _≤_, _<_}
 use native.Mathlib.Omega.{arith}
-use mathlib.Core.Path.{_≡_, refl, sym, subst, ap, _∙_}
+use mathlib.Core.Path.{_≡_, sym, _∙_}
 use mathlib.Core.List.{List}
 use lib.ListN.{length, getD, take, drop}
 use lib.Dec.{ltb}

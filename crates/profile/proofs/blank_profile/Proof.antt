@@ -1,5 +1,4 @@
 -- `profile::blank_profile` meets its contract: both labels are blank.
--- Assumes nothing.
 use borrow.Author.Needs.{needs}
 use Rattle.profile.specs.Profile.{blankProfile}
 use Rattle.profile.proofs.blank_profile.Statement.{statement}

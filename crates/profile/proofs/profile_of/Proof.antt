@@ -1,8 +1,6 @@
 -- `profile::profile_of` meets its contract: a pool that is too long is refused as well.
--- Assumes nothing.
 use borrow.Author.Needs.{needs}
 use borrow.Author.Tests.{eq-eqb, ne-eqb, lt-ltb}
-use mathlib.Core.Path.{_∙_}
 use Rattle.octets.specs.Pick.{pick}
 use Rattle.pool.specs.Pool.{verdictOf}
 use Rattle.profile.specs.Profile.{profileOf}

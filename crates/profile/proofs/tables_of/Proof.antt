@@ -1,5 +1,5 @@
 -- `profile::tables_of` meets its contract. The loop's invariant: the tables hold what the functions from here on say.
--- The measure is the number of functions left. Assumes nothing.
+-- The measure is the number of functions left.
 use Prim.Native.Nat.{ℕ, _+_, _-_, _≤_, _<_}
 use native.Mathlib.Omega.{arith}
 use mathlib.Core.Path.{_≡_, refl, sym, ap, _∙_}
@@ -7,10 +7,10 @@ use mathlib.Core.List.{map}
 use lib.ListN.{length, getD, drop, length-set}
 use denote.Ref.{now}
 use borrow.Author.Needs.{needs}
-use Rattle.pool.specs.Fields.{numbersAt}
+use Rattle.pool.specs.Fields.{functionType, stateType, functionAt, numbersAt}
 use Rattle.pool.specs.StageTwo.{objectOf, idOf, statesListed}
 use Rattle.pool.proofs.Lists.{length-numbers, number-in}
-use Rattle.profile.specs.Profile.{triggerAt, triggerIn, statesIn, bitsOf}
+use Rattle.profile.specs.Profile.{triggerIn, statesIn, bitsOf}
 use Rattle.profile.proofs.Laws.{Table, table-is, table-blank, table-more, trigger-end, trigger-next, states-end, states-next}
 use Rattle.profile.proofs.tables_of.Statement.{statement}
 use Rattle.profile.proofs.tables_of.Tie as tie
@@ -56,13 +56,13 @@ loop-again c =
     let k : ℕ = i .k - 1 in
     let e : i .k ≡ k + 1 = omega arith in
     let h : k < length l = omega (arith, length-numbers 2 s (a .at) (a .count)) in
-    let p : at-find .find-object .result ≡ objectOf s ps 1 (getD l k 0) =
-    at-find .find-object .ensures .0 ∙ ap (objectOf s ps 1) (at-number .u16-at .ensures ∙ sym (number-in 2 s (a .at) (a .count) k (omega arith))) in
-    let key : at-id .id-at .result ≡ idOf s ps 1 (getD l k 0) = at-id .id-at .ensures ∙ rw p in
-    let value : at-trigger .byte-at .result ≡ triggerAt s (objectOf s ps 1 (getD l k 0)) = at-trigger .byte-at .ensures ∙ rw p in
-    let bits : c .states-at .result ≡ bitsOf (map (idOf s ps 2) (statesListed s ps (getD l k 0))) = c .states-at .ensures ∙ rw p in (
+    let p : at-find .find-object .result ≡ objectOf s ps functionType (getD l k 0) =
+    at-find .find-object .ensures .0 ∙ ap (objectOf s ps functionType) (at-number .u16-at .ensures ∙ sym (number-in 2 s (a .at) (a .count) k (omega arith))) in
+    let key : at-id .id-at .result ≡ idOf s ps functionType (getD l k 0) = at-id .id-at .ensures ∙ rw p in
+    let value : at-trigger .trigger-at .result ≡ functionAt s (objectOf s ps functionType (getD l k 0)) .trigger = at-trigger .trigger-at .ensures ∙ rw p in
+    let bits : c .states-at .result ≡ bitsOf (map (idOf s ps stateType) (statesListed s ps (getD l k 0))) = c .states-at .ensures ∙ rw p in (
       λ id b.
-          table-more (at-id .id-at .result) (at-trigger .byte-at .result) _ (i .trigger) (i .inv .2) (omega arith) (i .inv .0) id b
+          table-more (at-id .id-at .result) (at-trigger .trigger-at .result) _ (i .trigger) (i .inv .2) (omega arith) (i .inv .0) id b
           ∙ sym (trigger-next s ps l k id h ∙ rw (← e, ← key, ← value)),
       λ id b.
           table-more (at-id .id-at .result) (c .states-at .result) _ (i .states) (i .inv .3) (omega arith) (i .inv .1) id b
@@ -94,7 +94,6 @@ tables-of-spec =
     (λ c κs. search needs)
     (λ c κs. omega arith)
     (λ c. search needs)
-    (λ c. omega arith)
     (λ c κs. search needs)
     (λ c. omega arith)
     (λ c κs. search needs)

@@ -1,5 +1,4 @@
 -- `promises::promises` meets its contract: each part is what its crate ensures.
--- Assumes nothing.
 use borrow.Author.Needs.{needs}
 use Rattle.promises.proofs.HowLate.{how-late}
 use Rattle.promises.proofs.Sample.{sample}

@@ -1,5 +1,4 @@
 -- `recording::again_error` meets its contract: the tests that led to each answer are those of the definition.
--- Assumes nothing.
 use borrow.Author.Tests.{eq-eqb, ne-eqb}
 use borrow.Author.Needs.{needs}
 use Rattle.octets.proofs.Tests.{said-not}
@@ -17,7 +16,7 @@ unfolding pick againError
 returns-2 c =
     let i = c .before .before in
     rw (
-      ← i .before .before .number-of .ensures,
+      ← i .before .before .status-number .ensures,
       said-not _ _ _ (i .before .is-same .ensures) (i .if1 .left),
       said-not _ _ _ (c .before .does-take .ensures) (c .if2 .taken),
     )
@@ -27,7 +26,7 @@ unfolding pick againError
 returns-3 c =
     let d = c .before .before in
     rw (
-      ← d .before .before .before .number-of .ensures,
+      ← d .before .before .before .status-number .ensures,
       said-not _ _ _ (d .before .before .is-same .ensures) (d .before .if1 .left),
       said-not _ _ _ (d .does-take .ensures) (c .before .if2 .left),
       ne-eqb _ _ (c .if3 .taken),
@@ -38,7 +37,7 @@ unfolding pick againError
 returns-4 c =
     let d = c .before .before in
     rw (
-      ← d .before .before .before .number-of .ensures,
+      ← d .before .before .before .status-number .ensures,
       said-not _ _ _ (d .before .before .is-same .ensures) (d .before .if1 .left),
       said-not _ _ _ (d .does-take .ensures) (c .before .if2 .left),
       eq-eqb _ _ (c .if3 .left),

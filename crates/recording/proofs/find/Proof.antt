@@ -1,5 +1,4 @@
 -- `recording::find` meets its contract: what is found from the start is found from here on.
--- Assumes nothing.
 use Prim.Native.Nat.{_≤_, _-_}
 use mathlib.Core.Path.{_≡_, sym, ap, _∙_}
 use native.Mathlib.Omega.{arith}

@@ -1,5 +1,4 @@
 -- `recording::first_value` meets its contract: the test that led to each return is that of the definition.
--- Assumes nothing.
 use borrow.Author.Tests.{eq-eqb, ne-eqb}
 use Rattle.octets.specs.Pick.{pick}
 use Rattle.recording.specs.Indication.{firstValue}

@@ -1,5 +1,4 @@
 -- `recording::kept_steps` meets its contract: when i steps were looked at, those of them that stay are copied, and the cells after them are blank.
--- Assumes nothing.
 use Prim.Native.Nat.{ℕ, _+_, _-_, _≤_, _<_, min}
 use mathlib.Core.Path.{_≡_, sym, ap, _∙_}
 use mathlib.Core.List.{List}

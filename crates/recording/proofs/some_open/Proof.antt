@@ -1,5 +1,4 @@
 -- `recording::some_open` meets its contract: what is among all is among those from here on.
--- Assumes nothing.
 use Prim.Native.Nat.{_≤_, _-_}
 use mathlib.Core.Path.{_≡_, sym, ap, _∙_}
 use native.Mathlib.Omega.{arith}

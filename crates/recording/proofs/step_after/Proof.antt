@@ -1,5 +1,4 @@
 -- `recording::step_after` meets its contract: the tests that led to each return are those of the definition.
--- Assumes nothing.
 use borrow.Author.Tests.{eq-eqb, ne-eqb}
 use borrow.Author.Needs.{needs}
 use Rattle.octets.specs.Pick.{pick}
@@ -16,19 +15,19 @@ unfolding pick stepAfter
 returns-2 c =
     let o = c .before .before .before in
     rw (
-      ← o .before .before .number-of .ensures,
+      ← o .before .before .status-number .ensures,
       ← o .before .is-same .ensures,
       ← o .is-open .ensures,
       c .before .before .if1 .left,
       eq-eqb _ _ (c .before .if2 .taken),
-    ) (c .finished .ensures)
+    ) (c .done-with .ensures)
 
 returns-3 : tie.Need-returns-3
 unfolding pick stepAfter
 returns-3 c =
     let o = c .before .before .before in
     rw (
-      ← o .before .before .number-of .ensures,
+      ← o .before .before .status-number .ensures,
       ← o .before .is-same .ensures,
       ← o .is-open .ensures,
       c .before .before .if1 .left,
@@ -41,7 +40,7 @@ unfolding pick stepAfter
 returns-4 c =
     let o = c .before .before .before in
     rw (
-      ← o .before .before .number-of .ensures,
+      ← o .before .before .status-number .ensures,
       ← o .before .is-same .ensures,
       ← o .is-open .ensures,
       c .before .before .if1 .left,

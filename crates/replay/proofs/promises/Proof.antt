@@ -1,5 +1,4 @@
 -- `replay::promises` meets its contract, by the theorems.
--- Assumes nothing.
 use Rattle.replay.proofs.Tans.{raised-tans}
 use Rattle.replay.proofs.Theorems.{leaves-exactly, not-yet-due, messages-do-not-move, sixteen, first-frame, not-before, own-bytes, same-bytes, no-other-frame}
 use Rattle.replay.proofs.Why.{ends-in-time, over-for-a-cause, all-done}

@@ -1,5 +1,4 @@
 -- `rewrite::rewrite` meets its contract: the tests that led to a return say which case of the definition holds.
--- Assumes nothing.
 use borrow.Author.Tests.{lt-ltb, le-ltb, eq-eqb, ne-eqb}
 use Rattle.octets.specs.Pick.{pick}
 use Rattle.rewrite.specs.Rewrite.{rewriteAnswer, rewriteOut}

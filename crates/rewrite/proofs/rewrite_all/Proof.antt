@@ -1,5 +1,4 @@
 -- `rewrite::rewrite_all` meets its contract. The loop's invariant is Turn; the measure is what is left of the pool.
--- Assumes nothing.
 use Prim.Native.Nat.{_-_}
 use mathlib.Core.Path.{ap, _∙_}
 use lib.ListN.{length}
@@ -9,6 +8,7 @@ use Rattle.pool.proofs.Walk.{size-least}
 use Rattle.objects.specs.declared.Found.{Found}
 use Rattle.objects.specs.Objects.{writeOut}
 use Rattle.objects.proofs.Passed.{accepted}
+use Rattle.objects.proofs.Trips.{round-trip}
 use Rattle.rewrite.proofs.Turn.{Turn, start, next-is, turned, ended}
 use borrow.Author.Needs.{needs}
 use native.Mathlib.Omega.{arith}
@@ -51,7 +51,10 @@ returns : tie.Need-returns Inv-loop μ-loop
 returns c =
     let l = c .before .loop in
     let s = c .before .before .before .before in
-    ended (now (s .args .pool)) (now (s .args .out)) (l .out) (l .at) (s .pre .1) (c .loop-test .left) (l .inv)
+    let pool = now (s .args .pool) in
+    let bytes : Bytes pool = λ k. c .before .before .before .shared-slice-known .given k .fits in
+    rw (round-trip .written pool (record { bytes = bytes; success = s .pre .0 }))
+    (ended pool (now (s .args .out)) (l .out) (l .at) (s .pre .1) (c .loop-test .left) (l .inv))
 
 same-length : tie.Need-same-length Inv-loop μ-loop
 same-length c = c .before .loop .inv .long

@@ -1,4 +1,4 @@
--- `scm_shown_of` meets its contract: the callee is handed the offset as its bits. Assumes nothing.
+-- `scm_shown_of` meets its contract: the callee is handed the offset as its bits.
 use borrow.Author.Needs.{needs}
 use mir.Facts.{toZ-ofZ}
 use Rattle.scm.proofs.scm_shown_of.Statement.{statement}

@@ -1,4 +1,4 @@
--- `shown::examples` meets its contract: the definitions are computed. Assumes nothing.
+-- `shown::examples` meets its contract: the definitions are computed.
 use mathlib.Core.Path.{refl}
 use lib.Ieee.{round, ofBits}
 use Rattle.shown.specs.Value.{productOf}

@@ -1,4 +1,4 @@
--- `shown::finite_above_zero` meets its contract. Assumes nothing.
+-- `shown::finite_above_zero` meets its contract.
 use mathlib.Core.Path.{sym}
 use Rattle.shown.proofs.Bits.{positive-bits}
 use Rattle.shown.proofs.finite_above_zero.Statement.{statement}

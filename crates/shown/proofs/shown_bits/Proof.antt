@@ -1,4 +1,4 @@
--- `shown::shown_bits` meets its contract. Assumes nothing.
+-- `shown::shown_bits` meets its contract.
 use borrow.Author.Needs.{needs}
 use mathlib.Core.Path.{_≡_, refl, sym, _∙_}
 use mathlib.Core.Bool.{true}

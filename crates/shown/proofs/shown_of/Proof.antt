@@ -1,4 +1,4 @@
--- `shown::shown_of` meets its contract. Assumes nothing.
+-- `shown::shown_of` meets its contract.
 use borrow.Author.Needs.{needs}
 use mathlib.Core.Path.{ap}
 use mathlib.Core.Bool.{not}

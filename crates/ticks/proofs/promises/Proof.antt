@@ -1,5 +1,4 @@
 -- `ticks::promises` meets its contract, by the theorems.
--- Assumes nothing.
 use Rattle.ticks.proofs.Theorems.{leaves-exactly, leaves-next, waits-for-each, messages-do-not-move, sixteen, ends-in-time}
 use Rattle.ticks.proofs.When.{leaves-when}
 use Rattle.ticks.proofs.Why.{over-for-a-cause}

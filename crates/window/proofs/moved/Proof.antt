@@ -1,6 +1,6 @@
 -- `window::moved` meets its contract: a walk of its MIR, by hand. The window is taken apart (Held), `place_after` is called on the slice and the
 -- place, and a window is made of the slice and the number that it returns. At the exit what the window owns is had twice once more, and the facts
--- of the new place take the place of those of the old one. Assumes nothing.
+-- of the new place take the place of those of the old one.
 use mathlib.Core.Path.{_≡_, refl, ap}
 use Prim.Native.Nat.{ℕ, _<_, _^_}
 use mathlib.Core.List.{[], _∷_}

@@ -1,5 +1,5 @@
 -- `window::next_object` meets its contract: a walk of its MIR, by hand. A window is opened in a local and passed on, and so is the window that is moved.
--- All that the proof knows of the three callees is that they meet their contracts. Assumes nothing.
+-- All that the proof knows of the three callees is that they meet their contracts.
 use mathlib.Core.Path.{_≡_, refl, ap, _∙_}
 use Prim.Native.Nat.{ℕ, _<_, _^_}
 use mathlib.Core.List.{List, [], _∷_}

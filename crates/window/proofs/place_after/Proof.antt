@@ -1,5 +1,4 @@
 -- `window::place_after` meets its contract: the place after is beside the object that is read.
--- Assumes nothing.
 use mathlib.Core.Path.{ap}
 use borrow.Author.Needs.{needs}
 use Rattle.objects.specs.declared.Found.{Found}

@@ -1,5 +1,5 @@
 -- `window::rest` meets its contract: a walk of its MIR, by hand. The window is taken apart (Held), and `rest_from` is called on the slice and the place.
--- All that the proof knows of it is that it meets its contract. Assumes nothing.
+-- All that the proof knows of it is that it meets its contract.
 use mathlib.Core.Path.{_≡_, refl}
 use mathlib.Core.List.{List, [], _∷_}
 use lib.Dec.{T as Holds}

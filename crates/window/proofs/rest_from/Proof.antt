@@ -1,5 +1,4 @@
 -- `window::rest_from` meets its contract: the part to the end is what is left, and past the end nothing is.
--- Assumes nothing.
 use mathlib.Core.Path.{_≡_}
 use mathlib.Core.List.{[]}
 use Prim.Native.Nat.{_-_}

@@ -1,19 +1,22 @@
--- `master::Master::abort` meets its contract: by its test.
--- Assumes nothing.
-use borrow.Author.Tests.{eq-eqb, ne-eqb}
-use Rattle.octets.specs.Pick.{pick}
-use Rattle.master.specs.Playback.{abortOf}
+-- `master::Master::abort` meets its contract: by its tests, in their order.
+use mathlib.Core.Path.{refl, _∙_}
+use Rattle.master.specs.Playback.{abortCall}
+use Rattle.master.proofs.Calls.{refused, done}
 use borrow.Author.Needs.{needs}
 use Rattle.master.proofs.Master.abort.Statement.{statement}
 use Rattle.master.proofs.Master.abort.Tie as tie
 
 returns : tie.Need-returns
-unfolding pick abortOf
-returns c = rw (c .gives .ensures, c .before .ended .ensures, eq-eqb _ _ (c .before .before .if1 .taken))
+unfolding abortCall
+returns c = c .gives .ensures ∙ refused _ _ (c .before .before .refusal .ensures) _ (c .before .if1 .taken) refl refl
 
 returns-2 : tie.Need-returns-2
-unfolding pick abortOf
-returns-2 c = rw (c .gives2 .ensures, ne-eqb _ _ (c .before .if1 .left))
+unfolding abortCall
+returns-2 c =
+    let at-ended = c .before in
+    let at-if1 = at-ended .before in
+    let at-refusal = at-if1 .before in
+    rw (c .gives2 .ensures, at-ended .ended .ensures) (done _ _ (at-refusal .refusal .ensures) _ (at-if1 .if1 .left) refl)
 
 pub abort-spec : {M : Type 1} → statement M
-abort-spec = tie.close (tie.spec (λ c κs. search needs) (λ c κs. search needs) returns (λ c κs. search needs) returns-2)
+abort-spec = tie.close (tie.spec (λ c κs. search needs) (λ c κs. search needs) returns (λ c κs. search needs) (λ c κs. search needs) returns-2)

@@ -1,114 +1,74 @@
--- `master::Master::answer` meets its contract: by its tests, in their order; the answer is what crate message writes.
--- Assumes nothing.
-use borrow.Author.Tests.{eq-eqb, ne-eqb, le-leb, lt-leb, le-ltb, lt-ltb}
-use mathlib.Core.Path.{refl}
-use Rattle.octets.specs.Pick.{pick}
-use Rattle.master.specs.Playback.{answerOf, answerOut}
-use Rattle.master.proofs.Reading.{kind-is, step-is}
+-- `master::Master::answer` meets its contract: by its number, which is the call's, and by what it calls.
+use mathlib.Core.Path.{_≡_, refl, sym, ap, _∙_}
+use Rattle.playback.specs.declared.Answered.{Answered}
+use Rattle.master.specs.Call.{Call, numberOf}
+use Rattle.master.specs.Playback.{unmatched, answerCall}
+use Rattle.master.proofs.Calls.{refused, done, kept, written, passed, below}
+use Rattle.master.proofs.Reading.{kind-is, step-is, answered-at}
+use Rattle.master.proofs.Slots.{asked-at}
 use borrow.Author.Needs.{needs}
 use Rattle.master.proofs.Master.answer.Statement.{statement}
 use Rattle.master.proofs.Master.answer.Tie as tie
 
+abbrev call : tie.After-refusal → Call
+call c =
+    let a = c .before .before .before .before .before .before .before .before .before .before .before .before .before .before .before .args in answerCall (a .t1) (a .slot) (a .msg .now) (a .out .now)
+
+why : (c : tie.After-refusal) → c .refusal .result ≡ numberOf (call c)
+unfolding answerCall
+why c =
+    let at-is-taken = c .before in
+    let at-unmatched = at-is-taken .before .before in
+    let at-answer = at-unmatched .before in
+    let at-octet = at-answer .before in
+    let at-reply-from = at-octet .before .before .before in
+    let at-at-most = at-reply-from .before .before in
+    let at-read = at-at-most .before .before in
+    let a = at-read .before .before .before .args in
+    rw (← kind-is _ _ (at-read .read .ensures), ← step-is _ _ (at-read .read .ensures), ← at-reply-from .reply-from .ensures)
+    (asked-at (a .t1 .slots) (a .slot) _ (at-at-most .at-most .ensures) _ _ _ _ _ _ _ (at-is-taken .is-taken .ensures)
+    (λ l. at-unmatched .unmatched .ensures ∙ ap (λ (x : Answered). unmatched (a .t1 .state) (x .number)) (answered-at _ _ _ _ _ _ (at-octet .octet .ensures l) (at-answer .answer .ensures)))
+    (c .refusal .ensures))
+
 returns : tie.Need-returns
-unfolding pick answerOf answerOut
-returns c = rw (c .gives .ensures, lt-ltb _ _ (c .before .if1 .taken)) (refl, refl)
+unfolding answerCall
+returns c =
+    let at-if1 = c .before in
+    let at-refusal = at-if1 .before in (
+      c .gives .ensures ∙ refused (call at-refusal) _ (why at-refusal) _ (at-if1 .if1 .taken) refl refl,
+      kept (call at-refusal) _ (why at-refusal) (at-if1 .if1 .taken),
+    )
 
 returns-2 : tie.Need-returns-2
-unfolding pick answerOf answerOut
+unfolding answerCall
 returns-2 c =
-    let at-if2 = c .before in
-    let at-read = at-if2 .before .before .before in
-    let at-if1 = at-read .before in
-    rw (
-      c .gives2 .ensures,
-      le-ltb _ _ (at-if1 .if1 .left),
-      ← kind-is _ _ (at-read .read .ensures),
-      ne-eqb _ _ (at-if2 .if2 .taken),
-    ) (refl, refl)
-
-returns-3 : tie.Need-returns-3
-unfolding pick answerOf answerOut
-returns-3 c =
-    let at-if3 = c .before in
-    let at-if2 = at-if3 .before in
-    let at-read = at-if2 .before .before .before in
-    let at-if1 = at-read .before in
-    rw (
-      c .gives3 .ensures,
-      le-ltb _ _ (at-if1 .if1 .left),
-      ← kind-is _ _ (at-read .read .ensures),
-      eq-eqb _ _ (at-if2 .if2 .left),
-      le-leb _ _ (at-if3 .if3 .taken),
-    ) (refl, refl)
-
-returns-4 : tie.Need-returns-4
-unfolding pick answerOf answerOut
-returns-4 c =
-    let at-if4 = c .before in
-    let at-refusal = at-if4 .before in
-    let at-is-taken = at-refusal .before in
-    let at-unmatched = at-is-taken .before in
-    let at-answer = at-unmatched .before in
-    let at-octet = at-answer .before in
-    let at-reply-from = at-octet .before .before .before in
-    let at-if3 = at-reply-from .before .before in
-    let at-if2 = at-if3 .before in
-    let at-read = at-if2 .before .before .before in
-    let at-if1 = at-read .before in
-    rw (
-      c .gives4 .ensures,
-      le-ltb _ _ (at-if1 .if1 .left),
-      ← kind-is _ _ (at-read .read .ensures),
-      eq-eqb _ _ (at-if2 .if2 .left),
-      lt-leb _ _ (at-if3 .if3 .left),
-      ← step-is _ _ (at-read .read .ensures),
-      ← at-reply-from .reply-from .ensures,
-      ← at-is-taken .is-taken .ensures,
-      ← at-octet .octet .ensures,
-      ← at-answer .answer .ensures,
-      ← at-unmatched .unmatched .ensures,
-      ← at-refusal .refusal .ensures,
-      ne-eqb _ _ (at-if4 .if4 .taken),
-    ) (refl, refl)
-
-returns-5 : tie.Need-returns-5
-unfolding pick answerOf answerOut
-returns-5 c =
     let at-replied = c .before in
     let at-write-receipt = at-replied .before .before .before in
-    let at-if4 = at-write-receipt .before .before in
-    let at-refusal = at-if4 .before in
-    let at-is-taken = at-refusal .before in
-    let at-unmatched = at-is-taken .before in
-    let at-answer = at-unmatched .before in
+    let at-if1 = at-write-receipt .before .before in
+    let at-refusal = at-if1 .before in
+    let at-answer = at-refusal .before .before .before .before in
     let at-octet = at-answer .before in
     let at-reply-from = at-octet .before .before .before in
-    let at-if3 = at-reply-from .before .before in
-    let at-if2 = at-if3 .before in
-    let at-read = at-if2 .before .before .before in
-    let at-if1 = at-read .before in
-    rw (
-      c .gives5 .ensures,
-      at-replied .replied .ensures,
-      le-ltb _ _ (at-if1 .if1 .left),
-      ← kind-is _ _ (at-read .read .ensures),
-      eq-eqb _ _ (at-if2 .if2 .left),
-      lt-leb _ _ (at-if3 .if3 .left),
-      ← step-is _ _ (at-read .read .ensures),
-      ← at-reply-from .reply-from .ensures,
-      ← at-is-taken .is-taken .ensures,
-      ← at-octet .octet .ensures,
-      ← at-answer .answer .ensures,
-      ← at-unmatched .unmatched .ensures,
-      ← at-refusal .refusal .ensures,
-      eq-eqb _ _ (at-if4 .if4 .left),
-    ) (refl, at-write-receipt .write-receipt .ensures)
+    let at-read = at-reply-from .before .before .before .before in
+    let l = below _ _ (passed _ _ _ _ _ (sym (why at-refusal) ∙ at-if1 .if1 .left) .here) in
+    let h = answered-at _ _ _ _ _ _ (at-octet .octet .ensures l) (at-answer .answer .ensures) in (
+      rw (
+        c .gives2 .ensures,
+        at-replied .replied .ensures,
+        h,
+        at-reply-from .reply-from .ensures,
+        step-is _ _ (at-read .read .ensures),
+      ) (done (call at-refusal) _ (why at-refusal) _ (at-if1 .if1 .left) refl),
+      rw (
+        ← written (call at-refusal) _ (why at-refusal) (at-if1 .if1 .left),
+        ← step-is _ _ (at-read .read .ensures),
+        ← at-reply-from .reply-from .ensures,
+      ) (at-write-receipt .write-receipt .ensures),
+    )
 
 pub answer-spec : {M : Type 1} → statement M
 answer-spec =
     tie.close
-    (tie.spec
-    (λ c κs. search needs) returns (λ c κs. search needs) (λ c κs. search needs) returns-2 (λ c κs. search needs) returns-3 (λ c. search needs)
-    (λ c. search needs) (λ c κs. search needs) (λ c κs. search needs) (λ c κs. search needs) (λ c κs. search needs) (λ c κs. search needs)
-    (λ c κs. search needs) (λ c κs. search needs) returns-4 (λ c κs. search needs) (λ c κs. search needs) (λ c κs. search needs) (λ c. search needs)
-    returns-5)
+    (tie.spec (λ c κs. search needs) (λ c κs. search needs) (λ c. search needs) (λ c. search needs) (λ c κs. search needs) (λ c κs. search needs)
+    (λ c κs. search needs) (λ c κs. search needs) (λ c κs. search needs) (λ c κs. search needs) (λ c κs. search needs) returns (λ c κs. search needs)
+    (λ c κs. search needs) (λ c κs. search needs) (λ c. search needs) returns-2)

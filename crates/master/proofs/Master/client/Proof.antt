@@ -1,5 +1,4 @@
 -- `master::Master::client` meets its contract: by its test.
--- Assumes nothing.
 use borrow.Author.Tests.{le-leb, lt-leb}
 use Rattle.octets.specs.Pick.{pick}
 use Rattle.master.specs.Readers.{clientView}
@@ -9,7 +8,7 @@ use Rattle.master.proofs.Master.client.Tie as tie
 
 returns : tie.Need-returns
 unfolding pick clientView
-returns c = rw (c .blank-client .ensures, le-leb _ _ (c .before .if1 .taken))
+returns c = rw (c .blank-record .ensures, le-leb _ _ (c .before .if1 .taken))
 
 returns-2 : tie.Need-returns-2
 unfolding pick clientView

@@ -1,5 +1,4 @@
 -- `master::Master::ended` meets its contract: both parts are blank.
--- Assumes nothing.
 use Rattle.master.specs.States.{ended}
 use borrow.Author.Needs.{needs}
 use Rattle.master.proofs.Master.ended.Statement.{statement}
@@ -7,7 +6,7 @@ use Rattle.master.proofs.Master.ended.Tie as tie
 
 returns : tie.Need-returns
 unfolding ended
-returns c = rw (c .before .blank-recording .ensures, c .blank-playback .ensures)
+returns c = rw (c .before .before .blank-parts .ensures .0, c .before .before .blank-parts .ensures .1)
 
 pub ended-spec : {M : Type 1} → statement M
-ended-spec = tie.close (tie.spec (λ c κs. search needs) (λ c κs. search needs) returns)
+ended-spec = tie.close (tie.spec (λ c κs. search needs) returns)

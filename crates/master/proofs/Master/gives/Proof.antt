@@ -1,7 +1,6 @@
 -- `master::Master::gives` meets its contract: the record is the definition's.
--- Assumes nothing.
 use mathlib.Core.Path.{refl}
-use Rattle.master.specs.Numbers.{gives}
+use Rattle.master.specs.Call.{gives}
 use Rattle.master.proofs.Master.gives.Statement.{statement}
 use Rattle.master.proofs.Master.gives.Tie as tie
 

@@ -1,104 +1,102 @@
--- `master::Master::indication` meets its contract: by its tests, in their order; the answer is what crate message writes.
--- Assumes nothing.
-use borrow.Author.Tests.{eq-eqb, ne-eqb, le-leb, lt-leb, le-ltb, lt-ltb}
-use mathlib.Core.Path.{refl}
-use Rattle.octets.specs.Pick.{pick}
-use Rattle.master.specs.Recording.{indicationOf, indicationOut}
-use Rattle.master.proofs.Reading.{kind-is, step-is, heard-at}
+-- `master::Master::indication` meets its contract: by its number, which is the call's, and by what it calls.
+use mathlib.Core.Path.{_≡_, refl, sym, _∙_}
+use mathlib.Core.Bool.{not}
+use borrow.Author.Tests.{eq-eqb, ne-eqb}
+use Rattle.master.specs.Call.{Call, numberOf, slotAt}
+use Rattle.master.specs.Recording.{untimely, indicationCall}
+use Rattle.master.proofs.Calls.{refused, done, kept, written, passed, below}
+use Rattle.master.proofs.Reading.{kind-is, step-is, heard-playing, heard-recording}
+use Rattle.master.proofs.Slots.{here, asked}
 use borrow.Author.Needs.{needs}
 use Rattle.master.proofs.Master.indication.Statement.{statement}
 use Rattle.master.proofs.Master.indication.Tie as tie
 
+abbrev call : tie.After-refusal → Call
+call c =
+    let a = c .before .before .before .before .before .before .before .before .before .before .before .args in indicationCall (a .t1) (a .slot) (a .msg .now) (a .out .now)
+
+why : (c : tie.After-refusal) → c .refusal .result ≡ numberOf (call c)
+unfolding indicationCall
+why c =
+    let at-is-taken = c .before in
+    let at-untimely = at-is-taken .before .before in
+    let at-execution-from = at-untimely .before in
+    let at-at-most = at-execution-from .before .before in
+    let at-read = at-at-most .before .before in
+    let a = at-read .before .before .before .args in
+    rw (← kind-is _ _ (at-read .read .ensures), ← step-is _ _ (at-read .read .ensures), ← at-execution-from .execution-from .ensures)
+    (asked (a .t1 .slots) (a .slot) _ (at-at-most .at-most .ensures) _ _ _ not (λ s. untimely (a .t1 .state) s (at-execution-from .execution-from .result)) _ _ _
+    (at-is-taken .is-taken .ensures) (at-untimely .untimely .ensures) (c .refusal .ensures))
+
 returns : tie.Need-returns
-unfolding pick indicationOf indicationOut
-returns c = rw (c .gives .ensures, lt-ltb _ _ (c .before .if1 .taken)) (refl, refl)
+unfolding indicationCall
+returns c =
+    let at-if1 = c .before in
+    let at-refusal = at-if1 .before in (
+      c .gives .ensures ∙ refused (call at-refusal) _ (why at-refusal) _ (at-if1 .if1 .taken) refl refl,
+      kept (call at-refusal) _ (why at-refusal) (at-if1 .if1 .taken),
+    )
 
 returns-2 : tie.Need-returns-2
-unfolding pick indicationOf indicationOut
+unfolding indicationCall
 returns-2 c =
-    let at-if2 = c .before in
-    let at-read = at-if2 .before .before .before in
-    let at-if1 = at-read .before in
-    rw (
-      c .gives2 .ensures,
-      le-ltb _ _ (at-if1 .if1 .left),
-      ← kind-is _ _ (at-read .read .ensures),
-      ne-eqb _ _ (at-if2 .if2 .taken),
-    ) (refl, refl)
+    let at-interrupted = c .before .before in
+    let at-octet = at-interrupted .before .before in
+    let at-if2 = at-octet .before in
+    let at-if1 = at-if2 .before in
+    let at-refusal = at-if1 .before in
+    let at-execution-from = at-refusal .before .before .before .before in
+    let at-read = at-execution-from .before .before .before .before in
+    let a = at-read .before .before .before .args in
+    let l = below _ _ (passed _ _ _ _ _ (sym (why at-refusal) ∙ at-if1 .if1 .left) .here) in
+    let h = heard-playing (a .t1) _ (a .slot) (slotAt (a .t1) (a .slot)) (at-execution-from .execution-from .result) (at-octet .octet .ensures l) (eq-eqb _ _ (at-if2 .if2 .taken)) in (
+      rw (
+        at-interrupted .interrupted .ensures .0,
+        h,
+        at-execution-from .execution-from .ensures,
+        step-is _ _ (at-read .read .ensures),
+      ) (done (call at-refusal) _ (why at-refusal) _ (at-if1 .if1 .left) refl),
+      rw (
+        ← written (call at-refusal) _ (why at-refusal) (at-if1 .if1 .left),
+        ← step-is _ _ (at-read .read .ensures),
+        ← at-execution-from .execution-from .ensures,
+        ← h,
+      ) (at-interrupted .interrupted .ensures .1),
+    )
 
 returns-3 : tie.Need-returns-3
-unfolding pick indicationOf indicationOut
+unfolding indicationCall
 returns-3 c =
-    let at-if3 = c .before in
-    let at-if2 = at-if3 .before in
-    let at-read = at-if2 .before .before .before in
-    let at-if1 = at-read .before in
-    rw (
-      c .gives3 .ensures,
-      le-ltb _ _ (at-if1 .if1 .left),
-      ← kind-is _ _ (at-read .read .ensures),
-      eq-eqb _ _ (at-if2 .if2 .left),
-      le-leb _ _ (at-if3 .if3 .taken),
-    ) (refl, refl)
-
-returns-4 : tie.Need-returns-4
-unfolding pick indicationOf indicationOut
-returns-4 c =
-    let at-if4 = c .before in
-    let at-refusal = at-if4 .before in
-    let at-is-taken = at-refusal .before in
-    let at-untimely = at-is-taken .before in
-    let at-execution-from = at-untimely .before in
-    let at-if3 = at-execution-from .before .before in
-    let at-if2 = at-if3 .before in
-    let at-read = at-if2 .before .before .before in
-    let at-if1 = at-read .before in
-    rw (
-      c .gives4 .ensures,
-      le-ltb _ _ (at-if1 .if1 .left),
-      ← kind-is _ _ (at-read .read .ensures),
-      eq-eqb _ _ (at-if2 .if2 .left),
-      lt-leb _ _ (at-if3 .if3 .left),
-      ← step-is _ _ (at-read .read .ensures),
-      ← at-execution-from .execution-from .ensures,
-      ← at-untimely .untimely .ensures,
-      ← at-is-taken .is-taken .ensures,
-      ← at-refusal .refusal .ensures,
-      ne-eqb _ _ (at-if4 .if4 .taken),
-    ) (refl, refl)
-
-returns-5 : tie.Need-returns-5
-unfolding pick indicationOf indicationOut
-returns-5 c =
-    let at-write-response = c .before .before .before .before in
-    let at-heard = at-write-response .before .before in
-    let at-octet = at-heard .before in
-    let at-if4 = at-octet .before in
-    let at-refusal = at-if4 .before in
-    let at-is-taken = at-refusal .before in
-    let at-untimely = at-is-taken .before in
-    let at-execution-from = at-untimely .before in
-    let at-if3 = at-execution-from .before .before in
-    let at-if2 = at-if3 .before in
-    let at-read = at-if2 .before .before .before in
-    let at-if1 = at-read .before in
-    let h = heard-at _ _ _ _ _ _ (at-octet .octet .ensures) (at-heard .heard .ensures) in
-    rw (
-      c .gives5 .ensures,
-      le-ltb _ _ (at-if1 .if1 .left),
-      ← kind-is _ _ (at-read .read .ensures),
-      eq-eqb _ _ (at-if2 .if2 .left),
-      lt-leb _ _ (at-if3 .if3 .left),
-      ← step-is _ _ (at-read .read .ensures),
-      ← at-execution-from .execution-from .ensures,
-      ← at-untimely .untimely .ensures,
-      ← at-is-taken .is-taken .ensures,
-      ← at-refusal .refusal .ensures,
-      eq-eqb _ _ (at-if4 .if4 .left),
-      ← h,
-    ) (refl, at-write-response .write-response .ensures)
+    let at-recorded = c .before .before in
+    let at-octet = at-recorded .before .before in
+    let at-if2 = at-octet .before in
+    let at-if1 = at-if2 .before in
+    let at-refusal = at-if1 .before in
+    let at-execution-from = at-refusal .before .before .before .before in
+    let at-at-most = at-execution-from .before .before in
+    let at-read = at-at-most .before .before in
+    let a = at-read .before .before .before .args in
+    let l = below _ _ (passed _ _ _ _ _ (sym (why at-refusal) ∙ at-if1 .if1 .left) .here) in
+    let h =
+    heard-recording (a .t1) _ (a .slot) _ (at-execution-from .execution-from .result) (at-octet .octet2 .ensures l) (here _ _ (at-at-most .at-most .ensures) l)
+    (ne-eqb _ _ (at-if2 .if2 .left)) in (
+      rw (
+        at-recorded .recorded .ensures .0,
+        h .0,
+        at-execution-from .execution-from .ensures,
+        step-is _ _ (at-read .read .ensures),
+      ) (done (call at-refusal) _ (why at-refusal) _ (at-if1 .if1 .left) refl),
+      rw (
+        ← written (call at-refusal) _ (why at-refusal) (at-if1 .if1 .left),
+        ← step-is _ _ (at-read .read .ensures),
+        ← at-execution-from .execution-from .ensures,
+        ← h .1,
+      ) (at-recorded .recorded .ensures .1),
+    )
 
 pub indication-spec : {M : Type 1} → statement M
-indication-spec = tie.close (tie.spec (λ c κs. search needs) returns (λ c κs. search needs) (λ c κs. search needs) returns-2 (λ c κs. search needs) returns-3 (λ c. search needs)
-    (λ c. search needs) (λ c κs. search needs) (λ c κs. search needs) (λ c κs. search needs) (λ c κs. search needs) (λ c κs. search needs) returns-4
-    (λ c κs. search needs) (λ c κs. search needs) (λ c κs. search needs) (λ c κs. search needs) (λ c. search needs) returns-5)
+indication-spec =
+    tie.close
+    (tie.spec (λ c κs. search needs) (λ c κs. search needs) (λ c. search needs) (λ c. search needs) (λ c κs. search needs) (λ c κs. search needs)
+    (λ c κs. search needs) (λ c κs. search needs) (λ c κs. search needs) returns (λ c κs. search needs) (λ c κs. search needs) (λ c. search needs) returns-2
+    (λ c κs. search needs) (λ c κs. search needs) (λ c. search needs) returns-3)

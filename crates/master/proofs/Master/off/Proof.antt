@@ -1,34 +1,34 @@
--- `master::Master::off` meets its contract: by the tests of the state and of the clients.
--- Assumes nothing.
-use borrow.Author.Tests.{eq-eqb, ne-eqb}
-use Rattle.octets.proofs.Tests.{said}
-use Rattle.octets.specs.Pick.{pick}
-use Rattle.master.specs.Clients.{offOf}
+-- `master::Master::off` meets its contract: by its number, which is the call's, and by what it calls.
+use mathlib.Core.Path.{_≡_, refl, _∙_}
+use Rattle.master.specs.Call.{Call, numberOf}
+use Rattle.master.specs.Clients.{offCall}
+use Rattle.master.proofs.Calls.{refused, done}
 use borrow.Author.Needs.{needs}
 use Rattle.master.proofs.Master.off.Statement.{statement}
 use Rattle.master.proofs.Master.off.Tie as tie
 
+abbrev call : tie.After-refusal → Call
+call c = let a = c .before .before .before .before .before .args in offCall (a .self)
+
+why : (c : tie.After-refusal) → c .refusal .result ≡ numberOf (call c)
+unfolding offCall
+why c = rw (← c .before .before .before .some-slot .ensures, ← c .before .before .awake .ensures) (c .refusal .ensures)
+
 returns : tie.Need-returns
-unfolding pick offOf
-returns c = rw (c .gives .ensures, ne-eqb _ _ (c .before .if1 .taken))
+unfolding offCall
+returns c =
+    let at-if1 = c .before in
+    let at-refusal = at-if1 .before in
+    c .gives .ensures ∙ refused (call at-refusal) _ (why at-refusal) _ (at-if1 .if1 .taken) refl refl
 
 returns-2 : tie.Need-returns-2
-unfolding pick offOf
+unfolding offCall
 returns-2 c =
-    rw (
-      c .gives2 .ensures,
-      eq-eqb _ _ (c .before .before .before .before .if1 .left),
-      said _ _ _ (c .before .before .some-slot .ensures) (c .before .if2 .taken),
-    )
-
-returns-3 : tie.Need-returns-3
-unfolding pick offOf
-returns-3 c =
-    rw (
-      c .gives3 .ensures,
-      eq-eqb _ _ (c .before .before .before .before .if1 .left),
-      said _ _ _ (c .before .before .some-slot .ensures) (c .before .if2 .left),
-    )
+    let at-if1 = c .before in
+    let at-refusal = at-if1 .before in
+    rw (c .gives2 .ensures) (done (call at-refusal) _ (why at-refusal) _ (at-if1 .if1 .left) refl)
 
 pub off-spec : {M : Type 1} → statement M
-off-spec = tie.close (tie.spec (λ c κs. search needs) returns (λ c κs. search needs) (λ c κs. search needs) returns-2 (λ c κs. search needs) returns-3)
+off-spec =
+    tie.close
+    (tie.spec (λ c κs. search needs) (λ c κs. search needs) (λ c κs. search needs) (λ c κs. search needs) returns (λ c κs. search needs) returns-2)

@@ -1,5 +1,4 @@
 -- `master::Master::replied` meets its contract: by its tests, in their order.
--- Assumes nothing.
 use borrow.Author.Tests.{eq-eqb, ne-eqb}
 use Rattle.octets.specs.Pick.{pick}
 use Rattle.master.specs.Playback.{replied}

@@ -1,5 +1,4 @@
 -- `master::Master::settled` meets its contract: by the test of the state and of the clients.
--- Assumes nothing.
 use Rattle.octets.specs.Pick.{pick}
 use Rattle.master.specs.States.{settled}
 use borrow.Author.Needs.{needs}

@@ -1,5 +1,4 @@
 -- `master::Master::state` meets its contract: by its test.
--- Assumes nothing.
 use mathlib.Core.Path.{sym}
 use native.Mathlib.Omega.{arith}
 use Rattle.master.specs.Readers.{stateOf}

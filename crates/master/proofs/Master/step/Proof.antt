@@ -1,5 +1,4 @@
 -- `master::Master::step` meets its contract: by its test.
--- Assumes nothing.
 use borrow.Author.Tests.{le-leb, lt-leb}
 use Rattle.octets.specs.Pick.{pick}
 use Rattle.master.specs.Readers.{stepView}

@@ -1,5 +1,4 @@
 -- `master::Master::ticked` meets its contract: by the state.
--- Assumes nothing.
 use borrow.Author.Tests.{eq-eqb, ne-eqb}
 use Rattle.octets.specs.Pick.{pick}
 use Rattle.master.specs.Tick.{ticked}

@@ -1,5 +1,4 @@
 -- `master::Master::write_frames` meets its contract: outside playback the frames are those of a playback in which nothing has left.
--- Assumes nothing.
 use borrow.Author.Tests.{eq-eqb, ne-eqb}
 use mathlib.Core.Path.{_∙_}
 use Rattle.octets.specs.Pick.{pick}

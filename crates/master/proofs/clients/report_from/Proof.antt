@@ -1,5 +1,4 @@
 -- `master::clients::report_from` meets its contract: the arm says which number it is.
--- Assumes nothing.
 use borrow.Author.Tests.{ne-eqb}
 use Rattle.octets.specs.Pick.{pick}
 use Rattle.master.specs.Clients.{reportFrom}

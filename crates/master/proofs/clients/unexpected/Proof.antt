@@ -1,5 +1,4 @@
 -- `master::clients::unexpected` meets its contract: by its test.
--- Assumes nothing.
 use Rattle.octets.specs.Pick.{pick}
 use Rattle.master.specs.Clients.{unexpected}
 use Rattle.master.proofs.clients.unexpected.Statement.{statement}

@@ -1,5 +1,4 @@
 -- `master::messages::write_receipt` meets its contract: it is what crate message writes.
--- Assumes nothing.
 use Rattle.master.specs.Messages.{receiptOut}
 use borrow.Author.Needs.{needs}
 use Rattle.master.proofs.messages.write_receipt.Statement.{statement}

@@ -1,5 +1,4 @@
 -- `master::messages::write_response` meets its contract: it is what crate message writes.
--- Assumes nothing.
 use Rattle.master.specs.Messages.{responseOut}
 use borrow.Author.Needs.{needs}
 use Rattle.master.proofs.messages.write_response.Statement.{statement}

@@ -1,5 +1,4 @@
 -- `master::playing::unheeded` meets its contract: by its test.
--- Assumes nothing.
 use Rattle.octets.specs.Pick.{pick}
 use Rattle.master.specs.Playback.{unheeded}
 use borrow.Author.Needs.{needs}

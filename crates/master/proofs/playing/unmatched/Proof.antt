@@ -1,5 +1,4 @@
 -- `master::playing::unmatched` meets its contract: by its test.
--- Assumes nothing.
 use borrow.Author.Tests.{eq-eqb, ne-eqb}
 use Rattle.octets.specs.Pick.{pick}
 use Rattle.master.specs.Playback.{unmatched}

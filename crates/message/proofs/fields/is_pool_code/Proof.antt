@@ -1,5 +1,4 @@
 -- `message::fields::is_pool_code` meets its contract: the arm says which case of the definition holds.
--- Assumes nothing.
 use Prim.Native.Nat.{_≤_, _<_}
 use native.Mathlib.Omega.{arith}
 use borrow.Author.Tests.{ne-eqb, le-leb, lt-leb}

@@ -1,5 +1,4 @@
 -- `message::fields::status_from` meets its contract: the arm says which row it is.
--- Assumes nothing.
 use mathlib.Core.Path.{sym}
 use Rattle.octets.specs.Pick.{pick}
 use Rattle.message.specs.Fields.{statusRows, statusFrom}

@@ -1,5 +1,4 @@
 -- `message::forms::capability` meets its contract: bytes 5 and 6 are the number's.
--- Assumes nothing.
 use Rattle.octets.specs.Octets as octets
 use borrow.Author.Needs.{needs}
 use Rattle.message.proofs.forms.capability.Statement.{statement}
@@ -10,4 +9,4 @@ unfolding octets.bytesOf
 capability-spec =
     tie.close
     (tie.spec
-    (λ c. search needs) (λ c. search needs) (λ c κs. tt) (λ c. c .plain .ensures))
+    (λ c. search needs) (λ c. search needs) (λ c κs. tt) (λ c. c .sized .ensures))

@@ -1,5 +1,4 @@
 -- `message::forms::labelled` meets its contract: the length is what its callee ensures.
--- Assumes nothing.
 use borrow.Author.Needs.{needs}
 use Rattle.message.proofs.forms.labelled.Statement.{statement}
 use Rattle.message.proofs.forms.labelled.Tie as tie

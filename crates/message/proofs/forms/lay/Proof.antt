@@ -1,5 +1,4 @@
 -- `message::forms::lay` meets its contract. The loop's invariant: the bytes before i are laid. The measure is what is left of the message.
--- Assumes nothing.
 use mathlib.Core.Path.{_≡_, refl, sym, _∙_}
 use mathlib.Core.Bool.{true, false}
 use mathlib.Core.List.{List, _++_}
@@ -10,7 +9,7 @@ use lib.ListN.{length, drop, length-set}
 use lib.Dec.{ltb}
 use borrow.Author.Tests.{lt-ltb, le-ltb, not-true, not-false}
 use Rattle.octets.specs.Pick.{pick}
-use Rattle.octets.specs.Label.{cells}
+use Rattle.octets.specs.Label.{rowOf}
 use Rattle.octets.proofs.Cells.{next-in}
 use Rattle.octets.specs.declared.label.Label.{Label}
 use Rattle.message.specs.Messages.{octetOf, laid, writtenAs, leftAs}
@@ -19,7 +18,7 @@ use Rattle.message.proofs.forms.lay.Statement.{statement}
 use Rattle.message.proofs.forms.lay.Tie as tie
 
 abbrev Inv-loop : tie.InvT-loop
-Inv-loop form label pool out₀ end i₀ out i = (i ≤ end) × (length out ≡ length out₀) × (out ≡ cells i (octetOf form label pool) ++ drop i out₀)
+Inv-loop form label pool out₀ end i₀ out i = (i ≤ end) × (length out ≡ length out₀) × (out ≡ rowOf i (octetOf form label pool) ++ drop i out₀)
 
 abbrev μ-loop : tie.MeasureT-loop
 μ-loop form label pool out₀ end i₀ out i = end - i
@@ -47,7 +46,7 @@ loop-again c =
     let a = at-loop .before .before .before .before .before .before .args in (
       omega arith,
       simp length-set (at-loop .loop .inv .1),
-      rw (at-loop .loop .inv .2, c .octet .ensures) (next-in (now (a .out)) (octetOf (a .form) (a .label) (now (a .pool))) (at-loop .loop .i) (omega arith)),
+      rw (at-loop .loop .inv .2, c .octet-of .ensures) (next-in (now (a .out)) (octetOf (a .form) (a .label) (now (a .pool))) (at-loop .loop .i) (omega arith)),
     )
 
 returns-3 : tie.Need-returns-3 Inv-loop μ-loop

@@ -1,5 +1,4 @@
 -- `message::forms::pooled` meets its contract: the length is what its callee ensures.
--- Assumes nothing.
 use borrow.Author.Needs.{needs}
 use Rattle.message.proofs.forms.pooled.Statement.{statement}
 use Rattle.message.proofs.forms.pooled.Tie as tie

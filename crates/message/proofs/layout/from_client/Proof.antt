@@ -1,5 +1,4 @@
 -- `message::layout::from_client` meets its contract: the arm says which code it is.
--- Assumes nothing.
 use mathlib.Core.Path.{sym}
 use mathlib.Core.Logic.{⊎-elim}
 use denote.Ref.{now}
@@ -19,7 +18,7 @@ from-client-spec =
     (λ c κs. tt) (λ c κs. tt) (λ c κs. tt) (λ c κs. tt) (λ c κs. tt) (λ c κs. search needs) (λ c. rw (c .match .keys1)) (λ c. rw (c .match .keys2))
     (λ c. rw (c .match .keys3)) (λ c. rw (c .match .keys4)) (λ c. rw (c .before .match .keys5, c .byte-at .ensures)) (λ c. rw (c .match .keys6))
     (λ c. rw (c .match .keys7)) (λ c. rw (c .before .match .keys8, c .byte-at2 .ensures))
-    (λ c. rw (c .before .match .keys9, c .execution-in .ensures)) (λ c. rw (c .before .match .keys10, c .reply-in .ensures))
+    (λ c. rw (c .before .match .keys9, c .as-execution .ensures)) (λ c. rw (c .before .match .keys10, c .as-reply .ensures))
     (λ c. rw (c .before .match .keys11, c .byte-at3 .ensures)) (λ c. rw (c .before .match .keys12, c .u32-at .ensures))
     (λ c. ⊎-elim (λ e. rw e) (λ e. rw e) (c .match .keys13))
     (λ c. let a = c .before .before .args in sym (no-row Unit (a .code) (clientRows (now (a .s))) Nothing (c .match .rest .0) .0)))

@@ -1,5 +1,4 @@
 -- `message::layout::from_master` meets its contract: the arm says which code it is.
--- Assumes nothing.
 use mathlib.Core.Path.{sym}
 use mathlib.Core.Logic.{⊎-elim}
 use denote.Ref.{now}
@@ -23,7 +22,7 @@ from-master-spec =
     (λ c. rw (c .before .match .keys5, c .byte-at5 .ensures)) (λ c. rw (c .before .match .keys6, c .byte-at6 .ensures))
     (λ c. rw (c .before .match .keys7, c .byte-at7 .ensures))
     (λ c. rw (c .before .before .match .keys8, c .byte-at9 .ensures, c .before .byte-at8 .ensures))
-    (λ c. rw (c .before .match .keys9, c .reply-in .ensures)) (λ c. rw (c .before .match .keys10, c .order-in .ensures))
-    (λ c. rw (c .before .match .keys11, c .receipt-in .ensures)) (λ c. rw (c .before .match .keys12, c .capability-in .ensures))
+    (λ c. rw (c .before .match .keys9, c .as-reply .ensures)) (λ c. rw (c .before .match .keys10, c .as-order .ensures))
+    (λ c. rw (c .before .match .keys11, c .as-receipt .ensures)) (λ c. rw (c .before .match .keys12, c .as-capability .ensures))
     (λ c. rw (c .before .match .keys13, c .byte-at10 .ensures)) (λ c. ⊎-elim (λ e. rw e) (λ e. rw e) (c .match .keys14))
     (λ c. let a = c .before .before .args in sym (no-row Unit (a .code) (masterRows (now (a .s))) Nothing (c .match .rest .0) .0)))

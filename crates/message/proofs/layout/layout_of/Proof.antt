@@ -1,5 +1,4 @@
 -- `message::layout::layout_of` meets its contract: the arm says which side it is.
--- Assumes nothing.
 use Rattle.octets.specs.Pick.{pick}
 use borrow.Author.Tests.{ne-eqb}
 use Rattle.message.specs.Layout.{layoutOf}

@@ -1,5 +1,4 @@
 -- `objects::legal::blank_numbers` meets its contract. The loop's invariant: the cells are blank from n on just where they are from here on.
--- Assumes nothing.
 use Prim.Native.Nat.{_-_}
 use mathlib.Core.Path.{_≡_, refl, sym, _∙_}
 use lib.ListN.{drop}

@@ -1,5 +1,4 @@
 -- `objects::legal::is_legal` meets its contract: its result is what the definition makes of what the callees return.
--- Assumes nothing.
 use Rattle.objects.specs.Objects.{legal}
 use borrow.Author.Needs.{needs}
 use Rattle.objects.proofs.legal.is_legal.Statement.{statement}

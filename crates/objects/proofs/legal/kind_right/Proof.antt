@@ -1,5 +1,4 @@
 -- `objects::legal::kind_right` meets its contract, by the variant that each return knows.
--- Assumes nothing.
 use borrow.Author.Needs.{needs}
 use Rattle.objects.proofs.legal.kind_right.Statement.{statement}
 use Rattle.objects.proofs.legal.kind_right.Tie as tie

@@ -1,5 +1,4 @@
 -- `objects::legal::labels_right` meets its contract, by the variant that each return knows.
--- Assumes nothing.
 use borrow.Author.Needs.{needs}
 use Rattle.objects.proofs.legal.labels_right.Statement.{statement}
 use Rattle.objects.proofs.legal.labels_right.Tie as tie

@@ -1,5 +1,4 @@
 -- `objects::parts::head_parts` meets its contract, by the variant that each return knows.
--- Assumes nothing.
 use mathlib.Core.Path.{sym, ap}
 use Rattle.objects.specs.Objects.{partsOf}
 use Rattle.objects.specs.declared.Kind.the-variants.{Of}
@@ -18,4 +17,4 @@ returns-3 : tie.Need-returns-3
 returns-3 c = rw (c .enum-told .given .1)
 
 pub head-parts-spec : {M : Type 1} → statement M
-head-parts-spec = tie.close (tie.spec (λ c. search needs) (λ c. search needs) (λ c. search needs) returns returns-2 returns-3)
+head-parts-spec = tie.close (tie.spec (λ c. search needs) (λ c. search needs) (λ c. search needs) (λ c. search needs) (λ c. search needs) (λ c. search needs) returns returns-2 returns-3)

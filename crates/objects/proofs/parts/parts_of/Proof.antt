@@ -1,5 +1,4 @@
 -- `objects::parts::parts_of` meets its contract, by the variant that each return knows.
--- Assumes nothing.
 use borrow.Author.Needs.{needs}
 use Rattle.objects.proofs.parts.parts_of.Statement.{statement}
 use Rattle.objects.proofs.parts.parts_of.Tie as tie

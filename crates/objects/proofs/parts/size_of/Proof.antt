@@ -1,5 +1,4 @@
 -- `objects::parts::size_of` meets its contract: its result is what the definition makes of what the callees return.
--- Assumes nothing.
 use mathlib.Core.Path.{ap}
 use Rattle.objects.specs.declared.parts.Parts.{Parts}
 use Prim.Native.Nat.{_+_, _*_}

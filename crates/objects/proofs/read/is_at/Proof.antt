@@ -1,5 +1,4 @@
 -- `objects::read::is_at` meets its contract: the tests that led to a return say which case of the definition holds.
--- Assumes nothing.
 use borrow.Author.Tests.{lt-ltb, le-ltb}
 use Rattle.objects.specs.Objects.{isAt}
 use borrow.Author.Needs.{needs}

@@ -1,5 +1,4 @@
 -- `objects::read::list_at` meets its contract. The loop's invariant: the cells filled from the start are the cells filled from here.
--- Assumes nothing.
 use Prim.Native.Nat.{_-_, _≤_}
 use mathlib.Core.Path.{_≡_, refl, sym, _∙_}
 use lib.ListN.{drop}

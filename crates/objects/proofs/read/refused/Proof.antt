@@ -1,5 +1,4 @@
 -- `objects::read::refused` meets its contract by computation.
--- Assumes nothing.
 use mathlib.Core.Path.{refl}
 use Rattle.objects.specs.Objects.{refused}
 use Rattle.objects.proofs.read.refused.Statement.{statement}

@@ -1,5 +1,4 @@
 -- `objects::write::no_room` meets its contract: the tests that led to a return say which case of the definition holds.
--- Assumes nothing.
 use mathlib.Core.Path.{_≡_, sym, ap, _∙_}
 use Prim.Native.Nat.{ℕ, _+_, _-_, _≤_}
 use native.Mathlib.Nat.{lt-of-not-le}

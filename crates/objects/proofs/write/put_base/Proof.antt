@@ -1,5 +1,4 @@
 -- `objects::write::put_base` meets its contract: the stores, one after the other, are the fields' bytes.
--- Assumes nothing.
 use mathlib.Core.Path.{ap, _∙_}
 use lib.ListN.{length}
 use lib.Seq.{length-sets}

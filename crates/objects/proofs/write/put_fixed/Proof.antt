@@ -1,5 +1,4 @@
 -- `objects::write::put_fixed` meets its contract, by the variant that each return knows.
--- Assumes nothing.
 use Rattle.objects.specs.Objects.{bytesOfFields}
 use borrow.Author.Needs.{needs}
 use Rattle.objects.proofs.write.put_fixed.Statement.{statement}

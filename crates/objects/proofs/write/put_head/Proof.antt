@@ -1,5 +1,4 @@
 -- `objects::write::put_head` meets its contract, by the variant that each return knows.
--- Assumes nothing.
 use borrow.Author.Needs.{needs}
 use Rattle.objects.proofs.write.put_head.Statement.{statement}
 use Rattle.objects.proofs.write.put_head.Tie as tie

@@ -1,5 +1,4 @@
 -- `objects::write::put_list` meets its contract. The loop's invariant: what is to be stored from the start is what is to be stored from here.
--- Assumes nothing.
 use Prim.Native.Nat.{_+_, _-_, _*_, _≤_}
 use mathlib.Core.Path.{_≡_, sym, ap, _∙_}
 use mathlib.Core.List.{map}

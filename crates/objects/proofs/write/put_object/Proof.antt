@@ -1,5 +1,4 @@
 -- `objects::write::put_object` meets its contract: the four parts, one after the other, are the object's bytes.
--- Assumes nothing.
 use mathlib.Core.Path.{_≡_, sym}
 use lib.ListN.{length}
 use denote.Ref.{now}

@@ -1,5 +1,5 @@
 -- `octets::label::label_at` meets its contract. The loop's invariant: the cells before k are filled, the others are 0.
--- The measure is what is left of the count. Assumes nothing.
+-- The measure is what is left of the count.
 use mathlib.Core.Path.{_≡_, refl}
 use mathlib.Core.List.{_++_}
 use Prim.Native.Nat.{ℕ, _+_, _-_, _≤_, min}

@@ -1,5 +1,4 @@
 -- `playback::Playback::answer` meets its contract: each test decides one choice.
--- Assumes nothing.
 use borrow.Author.Needs.{needs}
 use borrow.Author.Tests.{eq-eqb, ne-eqb, le-leb, lt-leb}
 use Rattle.octets.specs.Pick.{pick}
@@ -28,7 +27,7 @@ returns-3 c =
       ← f .before .find .ensures,
       lt-leb _ _ (f .if1 .left),
       ne-eqb _ _ (d .if2 .left),
-      ← n .number-of .ensures,
+      ← n .status-number .ensures,
       said _ _ _ (c .before .is-error .ensures) (c .if3 .taken),
     )
 
@@ -47,9 +46,9 @@ returns-4 c =
       ← f .before .find .ensures,
       lt-leb _ _ (f .if1 .left),
       ne-eqb _ _ (d .if2 .left),
-      ← n .number-of .ensures,
+      ← n .status-number .ensures,
       said _ _ _ (x .before .is-error .ensures) (x .if3 .left),
-      ← m .mark-of .ensures,
+      ← m .answer-from .ensures,
       ← w .with-answer .ensures,
       ← l .len .ensures,
       said _ _ _ (a .is-all-done .ensures) (c .if4 .taken),
@@ -70,9 +69,9 @@ returns-5 c =
       ← f .before .find .ensures,
       lt-leb _ _ (f .if1 .left),
       ne-eqb _ _ (d .if2 .left),
-      ← n .number-of .ensures,
+      ← n .status-number .ensures,
       said _ _ _ (x .before .is-error .ensures) (x .if3 .left),
-      ← m .mark-of .ensures,
+      ← m .answer-from .ensures,
       ← w .with-answer .ensures,
       ← l .len .ensures,
       said _ _ _ (a .is-all-done .ensures) (c .if4 .left),

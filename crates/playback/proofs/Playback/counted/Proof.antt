@@ -1,12 +1,11 @@
 -- `playback::Playback::counted` meets its contract.
--- Assumes nothing.
 use borrow.Author.Needs.{needs}
-use Rattle.playback.specs.Tick.{countedOf}
+use Rattle.playback.specs.Tick.{countedPlayback}
 use Rattle.playback.proofs.Playback.counted.Statement.{statement}
 use Rattle.playback.proofs.Playback.counted.Tie as tie
 
 returns : tie.Need-returns
-unfolding countedOf
+unfolding countedPlayback
 returns c = cc
 
 pub counted-spec : {M : Type 1} → statement M

@@ -1,5 +1,4 @@
 -- `playback::Playback::does_leave` meets its contract: there is a next cell, or none.
--- Assumes nothing.
 use borrow.Author.Tests.{le-leb, lt-leb}
 use borrow.Author.Needs.{needs}
 use Rattle.octets.specs.Pick.{pick}

@@ -1,5 +1,4 @@
 -- `playback::Playback::does_stop` meets its contract.
--- Assumes nothing.
 use borrow.Author.Needs.{needs}
 use Rattle.playback.specs.Tick.{doesStop}
 use Rattle.playback.proofs.Playback.does_stop.Statement.{statement}

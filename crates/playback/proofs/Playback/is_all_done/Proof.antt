@@ -1,5 +1,4 @@
 -- `playback::Playback::is_all_done` meets its contract.
--- Assumes nothing.
 use borrow.Author.Needs.{needs}
 use Rattle.playback.specs.Answer.{isAllDone}
 use Rattle.playback.proofs.Playback.is_all_done.Statement.{statement}

@@ -1,5 +1,4 @@
 -- `playback::Playback::tick` meets its contract: each test decides one choice.
--- Assumes nothing.
 use borrow.Author.Needs.{needs}
 use Rattle.octets.specs.Pick.{pick}
 use Rattle.octets.proofs.Tests.{said, said-not, granted}

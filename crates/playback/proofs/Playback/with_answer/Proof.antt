@@ -1,5 +1,4 @@
 -- `playback::Playback::with_answer` meets its contract: one cell is written.
--- Assumes nothing.
 use mathlib.Core.Path.{refl}
 use borrow.Author.Needs.{needs}
 use Rattle.playback.specs.Answer.{withAnswer}

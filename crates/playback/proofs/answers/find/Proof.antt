@@ -1,5 +1,4 @@
 -- `playback::answers::find` meets its contract: the steps from here on decide.
--- Assumes nothing.
 use mathlib.Core.Path.{_≡_, sym, _∙_}
 use Prim.Native.Nat.{_-_}
 use native.Mathlib.Omega.{arith}

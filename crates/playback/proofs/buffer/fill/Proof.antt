@@ -1,5 +1,4 @@
 -- `playback::buffer::fill` meets its contract: the buffer holds the frames of the steps looked at so far, and zeros after them.
--- Assumes nothing.
 use borrow.Author.Needs.{needs}
 use mathlib.Core.Path.{_≡_, ap, _∙_}
 use mathlib.Core.List.{List}

@@ -1,5 +1,4 @@
 -- `playback::buffer::put_frame` meets its contract: nine bytes, one after the other.
--- Assumes nothing.
 use native.Mathlib.Numerals.{towards-suc}
 use borrow.Author.Needs.{needs}
 use Rattle.playback.proofs.buffer.put_frame.Statement.{statement}

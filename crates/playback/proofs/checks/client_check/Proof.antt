@@ -1,5 +1,4 @@
 -- `playback::checks::client_check` meets its contract: each test decides one check.
--- Assumes nothing.
 use borrow.Author.Tests.{eq-eqb, ne-eqb}
 use borrow.Author.Needs.{needs}
 use Rattle.octets.specs.Pick.{pick}

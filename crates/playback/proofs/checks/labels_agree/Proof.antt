@@ -1,5 +1,4 @@
 -- `playback::checks::labels_agree` meets its contract.
--- Assumes nothing.
 use borrow.Author.Needs.{needs}
 use Rattle.playback.specs.Verification.{labelsAgree}
 use Rattle.playback.proofs.checks.labels_agree.Statement.{statement}

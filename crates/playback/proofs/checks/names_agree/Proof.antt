@@ -1,5 +1,4 @@
 -- `playback::checks::names_agree` meets its contract.
--- Assumes nothing.
 use borrow.Author.Needs.{needs}
 use Rattle.playback.proofs.checks.names_agree.Statement.{statement}
 use Rattle.playback.proofs.checks.names_agree.Tie as tie

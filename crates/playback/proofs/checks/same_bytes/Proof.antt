@@ -1,5 +1,4 @@
 -- `playback::checks::same_bytes` meets its contract: the bytes from here on decide.
--- Assumes nothing.
 use mathlib.Core.Path.{_≡_, sym, _∙_}
 use Prim.Native.Nat.{_-_}
 use native.Mathlib.Omega.{arith}

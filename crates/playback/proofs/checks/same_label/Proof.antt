@@ -1,5 +1,4 @@
 -- `playback::checks::same_label` meets its contract.
--- Assumes nothing.
 use borrow.Author.Needs.{needs}
 use Rattle.playback.specs.Verification.{sameLabel}
 use Rattle.playback.proofs.checks.same_label.Statement.{statement}

@@ -1,5 +1,4 @@
 -- `pool::fields::base_at` meets its contract: its result is what the definition makes of what the callees return.
--- Assumes nothing.
 use borrow.Author.Needs.{needs}
 use Rattle.pool.proofs.fields.base_at.Statement.{statement}
 use Rattle.pool.proofs.fields.base_at.Tie as tie

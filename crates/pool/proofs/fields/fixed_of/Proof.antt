@@ -1,5 +1,4 @@
 -- `pool::fields::fixed_of` meets its contract: the tests that led to a return say which case of the definition holds.
--- Assumes nothing.
 use borrow.Author.Needs.{needs}
 use Rattle.octets.proofs.Tests.{tests}
 use Rattle.pool.specs.Fields.{fixedOf}

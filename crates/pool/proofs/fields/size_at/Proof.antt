@@ -1,5 +1,4 @@
 -- `pool::fields::size_at` meets its contract: its result is what the definition makes of what the callees return.
--- Assumes nothing.
 use borrow.Author.Needs.{needs}
 use Rattle.pool.proofs.fields.size_at.Statement.{statement}
 use Rattle.pool.proofs.fields.size_at.Tie as tie

@@ -1,5 +1,4 @@
 -- `pool::fields::state_at` meets its contract: its result is what the definition makes of what the callees return.
--- Assumes nothing.
 use borrow.Author.Needs.{needs}
 use Rattle.pool.proofs.fields.state_at.Statement.{statement}
 use Rattle.pool.proofs.fields.state_at.Tie as tie
@@ -8,4 +7,4 @@ returns : tie.Need-returns
 returns c = cc
 
 pub state-at-spec : {M : Type 1} → statement M
-state-at-spec = tie.close (tie.spec (λ c κs. search needs) (λ c. search needs) (λ c κs. search needs) (λ c. search needs) (λ c κs. search needs) (λ c. search needs) (λ c κs. search needs) returns)
+state-at-spec = tie.close (tie.spec (λ c κs. search needs) (λ c κs. search needs) (λ c. search needs) (λ c κs. search needs) (λ c. search needs) (λ c κs. search needs) returns)

@@ -1,5 +1,4 @@
 -- `pool::ranges::shown_right` meets its contract: its result is what the definition makes of what the callees return.
--- Assumes nothing.
 use borrow.Author.Needs.{needs}
 use Rattle.pool.proofs.ranges.shown_right.Statement.{statement}
 use Rattle.pool.proofs.ranges.shown_right.Tie as tie

@@ -1,5 +1,5 @@
 -- `pool::stage_one::stage_one` meets its contract. The loop's invariant: the first fault of the whole pool is the first fault from here.
--- The measure is what is left of the length. Assumes nothing.
+-- The measure is what is left of the length.
 use Prim.Native.Nat.{_-_}
 use native.Mathlib.Omega.{arith}
 use mathlib.Core.Path.{_≡_, refl, sym, _∙_}
@@ -54,14 +54,5 @@ pub stage-one-spec : {M : Type 1} → statement M
 stage-one-spec =
     tie.close
     (tie.spec
-    Inv-loop
-    μ-loop
-    (λ c. refl)
-    (λ c κs. omega arith)
-    (λ c κs. omega arith)
-    returns
-    (λ c κs. omega arith)
-    (λ c. omega arith)
-    loop-less
-    loop-again
+    Inv-loop μ-loop (λ c. refl) (λ c κs. omega arith) (λ c κs. omega arith) returns (λ c κs. omega arith) (λ c. omega arith) loop-less loop-again
     returns-2)

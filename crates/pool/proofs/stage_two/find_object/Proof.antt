@@ -1,5 +1,5 @@
 -- `pool::stage_two::find_object` meets its contract. The loop's invariant: the first such object is the first from here, and here is in its
--- number's chain. The measure is what is left of the places. Assumes nothing.
+-- number's chain. The measure is what is left of the places.
 use Prim.Native.Nat.{_+_, _-_, _%_, _<_}
 use native.Mathlib.Omega.{arith}
 use mathlib.Core.Path.{_≡_, sym, _∙_}
@@ -7,7 +7,7 @@ use mathlib.Core.Bool.{true, false}
 use lib.ListN.{length, getD, drop}
 use denote.Ref.{now}
 use borrow.Author.Needs.{needs}
-use Rattle.pool.specs.Index.{inChain}
+use Rattle.pool.specs.Search.Index.{inChain}
 use Rattle.pool.specs.StageTwo.{find, isObject, objectOf}
 use Rattle.pool.proofs.Lists.{find-end, find-here}
 use Rattle.pool.proofs.Index.{chain-start, chain-later, chain-next}
@@ -35,8 +35,8 @@ loop-holds c =
 cast-p : tie.Need-cast-p Inv-loop μ-loop
 cast-p c = omega (arith, c .shared-slice-known5 .given (c .before .before .loop .i))
 
-u16-at-requires : tie.Need-u16-at-requires Inv-loop μ-loop
-u16-at-requires c κs = omega (arith, c .shared-slice-known5 .given (c .before .before .loop .i))
+object-number-requires : tie.Need-object-number-requires Inv-loop μ-loop
+object-number-requires c κs = omega (arith, c .shared-slice-known5 .given (c .before .before .loop .i))
 
 kind-at-requires : tie.Need-kind-at-requires Inv-loop μ-loop
 kind-at-requires c κs = omega (arith, c .before .shared-slice-known5 .given (c .before .before .before .loop .i))
@@ -49,7 +49,7 @@ returns c =
     let i = at-loop .loop in
     let a = at-loop .before .before .before .before .before .args in
     let e : isObject (now (a .s)) (a .kind) (a .n) (getD (now (a .ps)) (i .i) 0) ≡ true =
-    simp (← at-number .u16-at .ensures, ← c .before .kind-at .ensures) (c .if1 .taken) in (
+    simp (← at-number .object-number .ensures, ← c .before .kind-at .ensures) (c .if1 .taken) in (
       sym (i .inv .0 ∙ find-here (isObject (now (a .s)) (a .kind) (a .n)) (now (a .ps)) (length (now (a .s))) (i .i) (omega arith) e),
       omega (arith, at-number .before .shared-slice-known5 .given (i .i)),
     )
@@ -77,7 +77,7 @@ loop-again c =
     let at-start = at-loop .before .before .before .before .before in
     let a = at-start .args in
     let e : isObject (now (a .s)) (a .kind) (a .n) (getD (now (a .ps)) (i .i) 0) ≡ false =
-    simp (← at-number .u16-at .ensures, ← at-else .before .kind-at .ensures) (at-else .if1 .left) in
+    simp (← at-number .object-number .ensures, ← at-else .before .kind-at .ensures) (at-else .if1 .left) in
     let o = chain-next (now (a .s)) (now (a .ps)) (now (a .chain)) (at-start .pre) (a .kind) (a .n) (i .i) (omega arith) (record { same = i .inv .0; holds = i .inv .1 }) e in
     (o .same, o .holds)
 
@@ -94,23 +94,5 @@ pub find-object-spec : {M : Type 1} → statement M
 find-object-spec =
     tie.close
     (tie.spec
-    Inv-loop
-    μ-loop
-    (λ c. search needs)
-    (λ c. omega arith)
-    (λ c. omega arith)
-    cast-i
-    loop-holds
-    (λ c. omega arith)
-    (λ c. omega arith)
-    cast-p
-    u16-at-requires
-    kind-at-requires
-    returns
-    (λ c. omega arith)
-    (λ c. omega arith)
-    (λ c. omega arith)
-    cast-i-2
-    loop-less
-    loop-again
-    returns-2)
+    Inv-loop μ-loop (λ c. search needs) (λ c. omega arith) (λ c. omega arith) cast-i loop-holds (λ c. omega arith) (λ c. omega arith) cast-p
+    object-number-requires kind-at-requires returns (λ c. omega arith) (λ c. omega arith) (λ c. omega arith) cast-i-2 loop-less loop-again returns-2)

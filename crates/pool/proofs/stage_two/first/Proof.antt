@@ -1,6 +1,4 @@
 -- `pool::stage_two::first` meets its contract: the test that led to a return says which case of the definition holds.
--- Assumes nothing.
-use borrow.Author.Needs.{needs}
 use Rattle.octets.proofs.Tests.{tests}
 use Rattle.pool.specs.Verdicts.{first}
 use Rattle.pool.proofs.stage_two.first.Statement.{statement}

@@ -1,5 +1,5 @@
 -- `pool::stage_two::first_repeat` meets its contract. The loop's invariant: no key stood before so far, and the bits are the keys seen.
--- The measure is what is left of the keys. Assumes nothing.
+-- The measure is what is left of the keys.
 use Prim.Native.Nat.{_+_, _-_, _≤_, _<_}
 use native.Mathlib.Numerals.{add-one}
 use native.Mathlib.Omega.{arith}
@@ -76,21 +76,5 @@ pub first-repeat-spec : {M : Type 1} → statement M
 first-repeat-spec =
     tie.close
     (tie.spec
-    Inv-loop
-    μ-loop
-    loop-holds
-    (λ c. omega arith)
-    (λ c. omega arith)
-    cast-word
-    (λ c. search needs)
-    mul-bits
-    array-read-bits
-    (λ c κs. omega arith)
-    returns
-    (λ c κs. omega arith)
-    mul-seen
-    array-write-seen
-    (λ c. omega arith)
-    (λ c. omega arith)
-    loop-again
-    returns-2)
+    Inv-loop μ-loop loop-holds (λ c. omega arith) (λ c. omega arith) cast-word (λ c. search needs) mul-bits array-read-bits (λ c κs. omega arith)
+    returns (λ c κs. omega arith) mul-seen array-write-seen (λ c. omega arith) (λ c. omega arith) loop-again returns-2)

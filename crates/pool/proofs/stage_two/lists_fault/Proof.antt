@@ -1,27 +1,60 @@
 -- `pool::stage_two::lists_fault` meets its contract: the first verdict with a fault is the one returned.
--- Assumes nothing.
+use mathlib.Core.Path.{sym, ap, _∙_}
+use mathlib.Core.List.{map}
+use denote.Ref.{now}
 use borrow.Author.Needs.{needs}
-use borrow.Author.Tests.{eq-eqb, ne-eqb}
-use Rattle.octets.specs.Pick.{pick}
-use Rattle.pool.specs.Verdicts.{first}
-use Rattle.pool.specs.StageTwo.{listsFault}
+use Rattle.pool.specs.Verdicts.{first, firstOf}
+use Rattle.pool.specs.Fields.{functionsOf}
+use Rattle.pool.specs.StageTwo.{statesAlike, rulesOf}
+use Rattle.pool.proofs.Faults.{first-fault, first-fine, first-last}
 use Rattle.pool.proofs.stage_two.lists_fault.Statement.{statement}
 use Rattle.pool.proofs.stage_two.lists_fault.Tie as tie
 
+absent-fault-requires : tie.Need-absent-fault-requires
+absent-fault-requires c κs = search needs
+
 returns : tie.Need-returns
-unfolding listsFault first pick
+unfolding rulesOf firstOf
 returns c =
-    let early = c .before .before in
-    let o = early .before in
-    rw (← o .before .before .byte-at .ensures, ← o .before .byte-at2 .ensures, ← o .byte-at3 .ensures, ← early .functions-rules .ensures, ne-eqb _ _ (c .if1 .taken))
+    let three = c .before .before in
+    let base = three .before .before .before .before .base-at .ensures in
+    let absent = rw base at (three .absent-fault .ensures) in
+    rw (← absent) (sym (first-fault _ _ (c .if1 .taken)))
+
+ids-fault-requires : tie.Need-ids-fault-requires
+ids-fault-requires c κs =
+    let r = absent-fault-requires (c .before .before .before) κs in
+    (r .0, r .2, r .3)
 
 returns-2 : tie.Need-returns-2
-unfolding listsFault first pick
+unfolding rulesOf firstOf
 returns-2 c =
-    let early = c .before .before .before in
-    let o = early .before in
-    rw (← o .before .before .byte-at .ensures, ← o .before .byte-at2 .ensures, ← o .byte-at3 .ensures, ← early .functions-rules .ensures, eq-eqb _ _ (c .before .if1 .left))
-    (c .states-rules .ensures)
+    let six = c .before .before in
+    let three = six .before .before .before in
+    let base = three .before .before .before .before .base-at .ensures in
+    let absent = rw base at (three .absent-fault .ensures) in
+    let alike = rw base at (six .ids-fault .ensures) in
+    rw (← absent, ← alike) (sym (first-fine _ _ (six .before .if1 .left) ∙ first-fault _ _ (c .if2 .taken)))
+
+states-fault-requires : tie.Need-states-fault-requires
+states-fault-requires c κs = ids-fault-requires (c .before .before .before) κs
+
+returns-3 : tie.Need-returns-3
+unfolding rulesOf firstOf
+returns-3 c =
+    let six = c .before .before .before in
+    let three = six .before .before .before in
+    let base = three .before .before .before .before .base-at .ensures in
+    let absent = rw base at (three .absent-fault .ensures) in
+    let alike = rw base at (six .ids-fault .ensures) in
+    let states = rw base at (c .states-fault .ensures) in
+    let a = three .before .before .before .before .before .before .before .before .args in
+    let last = first-last (map (statesAlike (now (a .s)) (now (a .ps)) 0x07) (functionsOf (now (a .s)) (a .b))) in
+    rw (← absent, ← alike) (states ∙ sym (first-fine _ _ (six .before .if1 .left) ∙ first-fine _ _ (c .before .if2 .left) ∙ ap (first _) last))
 
 pub lists-fault-spec : {M : Type 1} → statement M
-lists-fault-spec = tie.close (tie.spec (λ c. search needs) (λ c κs. search needs) (λ c. search needs) (λ c. search needs) (λ c κs. search needs) (λ c. search needs) (λ c. search needs) (λ c κs. search needs) (λ c. search needs) (λ c. search needs) (λ c. search needs) (λ c. search needs) (λ c κs. search needs) returns (λ c κs. search needs) returns-2)
+lists-fault-spec =
+    tie.close
+    (tie.spec
+    (λ c κs. search needs) (λ c. search needs) (λ c. search needs) (λ c. search needs) (λ c. search needs) (λ c. search needs) (λ c. search needs)
+    absent-fault-requires returns ids-fault-requires returns-2 states-fault-requires returns-3)

@@ -1,5 +1,4 @@
 -- `pool::stage_two::stage_two` meets its contract: the places listed are the pool's.
--- Assumes nothing.
 use native.Mathlib.Omega.{arith}
 use mathlib.Core.Path.{sym}
 use lib.Seq.{length-take-le}

@@ -1,5 +1,4 @@
 -- `recording::Recording::again` meets its contract: only the step found is stored anew.
--- Assumes nothing.
 use borrow.Author.Needs.{needs}
 use Rattle.recording.specs.Indication.{heardAgain}
 use Rattle.recording.proofs.Recording.again.Statement.{statement}

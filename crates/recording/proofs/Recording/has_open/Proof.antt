@@ -1,5 +1,4 @@
 -- `recording::Recording::has_open` meets its contract: by the loop over the steps.
--- Assumes nothing.
 use borrow.Author.Needs.{needs}
 use Rattle.recording.specs.Indication.{hasOpen}
 use Rattle.recording.proofs.Recording.has_open.Statement.{statement}

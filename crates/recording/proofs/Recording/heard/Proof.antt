@@ -1,5 +1,4 @@
 -- `recording::Recording::heard` meets its contract: a number below 64 is a step that is held.
--- Assumes nothing.
 use borrow.Author.Tests.{lt-ltb, le-ltb}
 use borrow.Author.Needs.{needs}
 use Rattle.octets.specs.Pick.{pick}

@@ -1,0 +1,72 @@
+-- What every call keeps: that which each change of the master keeps.
+use Prim.Native.Nat.{ℕ, _≤_, _<_}
+use mathlib.Core.Path.{_≡_, subst}
+use native.Mathlib.Omega.{arith}
+use mathlib.Core.List.{List, [], _∷_}
+use Rattle.client.specs.Clients.{slotCount}
+use Rattle.client.specs.declared.Client.{Client}
+use Rattle.sequence.specs.Sequence.{lastTick}
+use Rattle.recording.specs.State.{blankRecording}
+use Rattle.recording.specs.Indication.{countedRecording}
+use Rattle.playback.specs.State.{goesOn, blankPlayback}
+use Rattle.master.specs.declared.Master.{Master}
+use Rattle.master.specs.Call.{numberOf}
+use Rattle.master.specs.States as states
+use Rattle.master.specs.States.{newMaster, withState, withSlot, withRecording, withPlayback, ended}
+use Rattle.master.specs.Recording.{recordingEnded}
+use Rattle.master.specs.Playback.{answered}
+use Rattle.master.proofs.Calls.{passed}
+use Rattle.events.specs.Events.{Event, callOf, apply, runFrom, Given}
+use Rattle.events.proofs.Calls.{either-way}
+use Rattle.events.proofs.Changes.{Near, itself, slotted, heardIn, tickedIn, Change, rested, moved, dropped, broken, recordStarts, recordWaits, recordEnds, recordHears, recordHearsLast, recordTicks, playStarts, playTicks, playTicksLast, playHears, playHearsLast}
+use Rattle.events.proofs.Rows.{row}
+
+-- what a call that is done does to the master
+pub done-change : (m : Master) (e : Event) → numberOf (callOf m e) ≡ 0 → Change m e (callOf m e .after)
+done-change m e z = row m e .change (passed _ _ _ _ _ z)
+
+pub record Invariant (P : Master → Type 0) : Type 0 where
+  pub state : (m : Master) (s : ℕ) → s ≤ states.abort → P m → P (withState m s)
+  pub slot : (m : Master) (i : ℕ) (s : Client) → P m → P (withSlot m i s)
+  -- a recording or a playback is over; what stays of a recording is the sequence
+  pub over : (m : Master) (s : ℕ) → s ≤ states.abort → P m → P (ended m s)
+  pub stays : (m : Master) → P m → P (recordingEnded m)
+  -- a recording starts, hears an E.4, counts a tick
+  pub begins : (m : Master) → P m → P (withRecording m blankRecording)
+  pub hears : (m : Master) (slot : ℕ) (msg : List ℕ) → slot < slotCount → P m → P (withRecording m (heardIn m slot msg .recording))
+  pub counts :
+      (m : Master) (mm : ℕ) → mm ≤ 65535 → countedRecording (m .recording) mm .ticks < lastTick → P m → P (withRecording m (countedRecording (m .recording) mm))
+  -- a playback starts, goes on at a tick, takes an answer
+  pub starts : (m : Master) → P m → P (withPlayback m (m .tan) blankPlayback)
+  pub ticks : (m : Master) (mm : ℕ) → mm ≤ 65535 → tickedIn m mm .end ≡ goesOn → P m → P (withPlayback m (tickedIn m mm .tan) (tickedIn m mm .playback))
+  pub answers : (m : Master) (slot : ℕ) (msg : List ℕ) → P m → P (withPlayback m (m .tan) (answered m slot msg .playback))
+
+module _ (P : Master → Type 0) (k : Invariant P) where
+  near : (m n : Master) → Near m n → P m → P n
+  near m n itself h = h
+  near m n (slotted i s) h = k .slot m i s h
+
+  changed : (m : Master) (e : Event) (n : Master) → Change m e n → P m → P n
+  changed m e n (rested x y) h = near m n x h
+  changed m e n (moved x s a b) h = k .state _ s (omega arith) (near m _ x h)
+  changed m e n (dropped x i y) h = k .over _ states.ready (omega arith) (near m _ x h)
+  changed m e n (broken x p c) h = k .over _ states.abort (omega arith) (near m _ x h)
+  changed m e n (recordStarts r) h = k .state _ states.recording (omega arith) (k .begins m h)
+  changed m e n (recordWaits i) h = k .state m states.recordComplete (omega arith) h
+  changed m e n (recordEnds i) h = k .stays m h
+  changed m e n (recordHears slot msg out i l) h = k .hears m slot msg l h
+  changed m e n (recordHearsLast slot msg out i l) h = k .stays _ (k .hears m slot msg l h)
+  changed m e n (recordTicks mm out i l t) h = k .counts m mm l t h
+  changed m e n (playStarts r) h = k .state _ states.playback (omega arith) (k .starts m h)
+  changed m e n (playTicks mm out p l t) h = k .ticks m mm l t h
+  changed m e n (playTicksLast mm out p) h = k .over m states.abort (omega arith) h
+  changed m e n (playHears slot msg out p) h = k .answers m slot msg h
+  changed m e n (playHearsLast slot msg out s p r l) h = k .over m s l h
+
+  along : (events : List Event) (m : Master) → P m → P (runFrom m events)
+  along [] m h = h
+  along (e ∷ events) m h =
+      along events (apply m e .master) (either-way m (callOf m e) P (λ _. h) (λ z. changed m e _ (done-change m e z) h))
+
+  pub always : P newMaster → (m : Master) → Given m → P m
+  always h m g = subst P (g .1) (along (g .0) newMaster h)
