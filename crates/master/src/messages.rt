@@ -1,6 +1,6 @@
 // The answers E.5 and E.8, and a slot's number as they have it.
 ghost use mathlib.Core.Path.{_≡_};
-ghost use Prim.Native.Nat.{_<_};
+ghost use Prim.Native.Nat.{min};
 ghost use Rattle.master.specs.Messages.{responseOut, receiptOut};
 use message::Execution;
 use message::Message;
@@ -37,12 +37,12 @@ pub(crate) fn write_receipt(r: Reply, out: &mut [u8])
     message::write(Message::AnswerAcknowledgement(receipt), blank(), out);
 }
 
-// A slot's number, as a message's frame and a step have it; of one above 7 nothing is said.
+// A slot's number, as a frame and a step have it; above 7 that of the last one, which is read in its place.
 pub(crate) fn octet(slot: usize) -> u8
-    ensures { λ r. ⌜ (slot < 8 → r ≡ slot) ⌝ }
+    ensures { λ r. ⌜ r ≡ min slot 7 ⌝ }
 {
     if slot < 8 {
         return slot as u8;
     }
-    8
+    7
 }

@@ -5,7 +5,7 @@ use Rattle.master.specs.Call.{Call, numberOf}
 use Rattle.master.specs.Playback.{unmatched, answerCall}
 use Rattle.master.proofs.Calls.{refused, done, kept, written, passed, below}
 use Rattle.master.proofs.Reading.{kind-is, step-is, answered-at}
-use Rattle.master.proofs.Slots.{asked-at}
+use Rattle.master.proofs.Slots.{here, asked-at}
 use borrow.Author.Needs.{needs}
 use Rattle.master.proofs.Master.answer.Statement.{statement}
 use Rattle.master.proofs.Master.answer.Tie as tie
@@ -27,7 +27,7 @@ why c =
     let a = at-read .before .before .before .args in
     rw (← kind-is _ _ (at-read .read .ensures), ← step-is _ _ (at-read .read .ensures), ← at-reply-from .reply-from .ensures)
     (asked-at (a .t1 .slots) (a .slot) _ (at-at-most .at-most .ensures) _ _ _ _ _ _ _ (at-is-taken .is-taken .ensures)
-    (λ l. at-unmatched .unmatched .ensures ∙ ap (λ (x : Answered). unmatched (a .t1 .state) (x .number)) (answered-at _ _ _ _ _ _ (at-octet .octet .ensures l) (at-answer .answer .ensures)))
+    (λ l. at-unmatched .unmatched .ensures ∙ ap (λ (x : Answered). unmatched (a .t1 .state) (x .number)) (answered-at _ _ _ _ _ _ (here _ _ (at-octet .octet .ensures) l) (at-answer .answer .ensures)))
     (c .refusal .ensures))
 
 returns : tie.Need-returns
@@ -51,7 +51,7 @@ returns-2 c =
     let at-reply-from = at-octet .before .before .before in
     let at-read = at-reply-from .before .before .before .before in
     let l = below _ _ (passed _ _ _ _ _ (sym (why at-refusal) ∙ at-if1 .if1 .left) .here) in
-    let h = answered-at _ _ _ _ _ _ (at-octet .octet .ensures l) (at-answer .answer .ensures) in (
+    let h = answered-at _ _ _ _ _ _ (here _ _ (at-octet .octet .ensures) l) (at-answer .answer .ensures) in (
       rw (
         c .gives2 .ensures,
         at-replied .replied .ensures,

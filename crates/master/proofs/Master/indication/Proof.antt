@@ -49,7 +49,7 @@ returns-2 c =
     let at-read = at-execution-from .before .before .before .before in
     let a = at-read .before .before .before .args in
     let l = below _ _ (passed _ _ _ _ _ (sym (why at-refusal) ∙ at-if1 .if1 .left) .here) in
-    let h = heard-playing (a .t1) _ (a .slot) (slotAt (a .t1) (a .slot)) (at-execution-from .execution-from .result) (at-octet .octet .ensures l) (eq-eqb _ _ (at-if2 .if2 .taken)) in (
+    let h = heard-playing (a .t1) _ (a .slot) (slotAt (a .t1) (a .slot)) (at-execution-from .execution-from .result) (here _ _ (at-octet .octet .ensures) l) (eq-eqb _ _ (at-if2 .if2 .taken)) in (
       rw (
         at-interrupted .interrupted .ensures .0,
         h,
@@ -78,7 +78,7 @@ returns-3 c =
     let a = at-read .before .before .before .args in
     let l = below _ _ (passed _ _ _ _ _ (sym (why at-refusal) ∙ at-if1 .if1 .left) .here) in
     let h =
-    heard-recording (a .t1) _ (a .slot) _ (at-execution-from .execution-from .result) (at-octet .octet2 .ensures l) (here _ _ (at-at-most .at-most .ensures) l)
+    heard-recording (a .t1) _ (a .slot) _ (at-execution-from .execution-from .result) (here _ _ (at-octet .octet2 .ensures) l) (here _ _ (at-at-most .at-most .ensures) l)
     (ne-eqb _ _ (at-if2 .if2 .left)) in (
       rw (
         at-recorded .recorded .ensures .0,
