@@ -67,7 +67,7 @@ const TICK_COPIES: f64 = 2.2;
 const COPIES: f64 = 5.0;
 /// The most bytes of stack of a call with its structs; an attach judges its pool on it, which takes 32 KB by itself.
 const STACK: usize = 131_072;
-const ATTACH_STACK: usize = 133_120;
+const ATTACH_STACK: usize = 135_168;
 /// 100 ms, in nanoseconds.
 const TICK: f64 = 1e8;
 
