@@ -22,6 +22,9 @@ readyReport = 1
 abbrev pub recordReport : ℕ
 recordReport = 2
 
+abbrev pub playbackReport : ℕ
+playbackReport = 4
+
 abbrev pub abortReport : ℕ
 abortReport = 5
 

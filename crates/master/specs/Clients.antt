@@ -9,7 +9,7 @@ use Rattle.arrays.specs.Arrays.{some}
 use Rattle.pool.specs.Pool.{verdictOf}
 use Rattle.profile.specs.Profile.{keptOfPool}
 use Rattle.message.specs.{Messages.writtenOver, declared.Message.the-variants.StateCommand}
-use Rattle.client.specs.Clients.{disabledReport, recordReport, abortReport, isTaken, isEnabled, isAwake, isNamed, blankSlot, attached, withWanted, withReport}
+use Rattle.client.specs.Clients.{disabledReport, readyReport, recordReport, playbackReport, abortReport, isTaken, isEnabled, isAwake, isNamed, blankSlot, attached, withWanted, withReport}
 use Rattle.client.specs.declared.Client.{Client}
 use Rattle.master.specs.declared.Master.{Master}
 use Rattle.master.specs.Call.{Call, bare, slotAt, isAbsent}
@@ -69,7 +69,8 @@ wantCall wanted m slot out = record {
 
 -- "4: .. a report of no known state": F.3 numbers them 0 disabled, 1 ready, 2 record, 4 playback, 5 abort
 abbrev pub isReport : ℕ → Bool
-isReport report = eqb report 0 || eqb report 1 || eqb report 2 || eqb report 4 || eqb report 5
+isReport report =
+    eqb report disabledReport || eqb report readyReport || eqb report recordReport || eqb report playbackReport || eqb report abortReport
 
 abbrev pub noReport : ℕ
 noReport = 255

@@ -145,7 +145,7 @@ impl Master {
         self.settled().gives(DONE)
     }
 
-    // A client that is gone is one that reports disabled, or was not enabled.
+    // A client that is gone. One that was enabled ends what its disabling ends.
     pub fn lost(mut self, slot: usize) -> Outcome
         ensures { λ r. ⌜ r ≡ outcomeOf self (lostCall self slot) ⌝ }
     {
