@@ -18,7 +18,8 @@ extern "C" {
 /* ---- The numbers that calls give back, from the table of document 01
 
    Where several apply: 1, 4, 3, 2, then the rest in the order that the call's own rule gives. Every number but SCM_OK leaves the master and
-   all lent memory unchanged. */
+   all lent memory (the bytes that are handed over with a length to be written in) unchanged. An out-parameter that is no lent memory (code,
+   object, count, length, a view, a message, a shown value) is written always, with 0 where there is nothing to say. */
 enum scm_number {
     SCM_OK = 0,                     /* done */
     SCM_TOO_SHORT = 1,              /* lent output too short */
@@ -316,12 +317,13 @@ static inline uint8_t scm_shown(uint32_t value, int32_t offset, float scale, dou
 /* ---- The master: clients, states, recording and playback
 
    The host owns the master's memory, one struct for each master, and hands it to each call. A call gives a number of document 01; with every number but 0 the
-   master and every lent byte are as they were. Set it up with scm_init, and change it by the calls only. */
+   master and every lent byte are as they were. Set it up with scm_init, and change it by the calls only. The calls from scm_on to scm_answer are events;
+   scm_state, scm_slot, scm_step_count, scm_step and scm_client read, in every state, and change nothing. */
 
-/* scm_state, as F.2 numbers them. */
+/* scm_state. The numbering is the library's own. */
 enum scm_states { SCM_INACTIVE = 0, SCM_READY = 1, SCM_RECORD = 2, SCM_RECORD_COMPLETE = 3, SCM_PLAYBACK = 4, SCM_ABORT = 5 };
 
-/* What a client reports, as F.3 numbers them. */
+/* What a client reports, decoded from its status message as docs/HOST.md says. The numbering is the library's own. */
 enum scm_reports { SCM_REPORT_DISABLED = 0, SCM_REPORT_READY = 1, SCM_REPORT_RECORD = 2, SCM_REPORT_PLAYBACK = 4, SCM_REPORT_ABORT = 5 };
 
 /* The least lengths of lent output: an answer (E.2, E.5, E.8), and the frames of a tick, nine bytes each: the slot, then E.6. */
