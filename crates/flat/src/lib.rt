@@ -4,6 +4,7 @@ ghost use mathlib.Core.List.{[]};
 ghost use lib.ListN.{length};
 ghost use Rattle.message.specs.Messages.{writtenOf, writtenOver};
 ghost use Rattle.flat.specs.Flat.{kindOf, bareFlat, executionStep, replyStep, orderStep, receiptStep, flatOf, stated, executionFrom, replyFrom, receiptFrom, messageFrom, readingOf, BackAgain};
+ghost use Rattle.flat.specs.ReadBack.{ReadBack};
 use message::Capability;
 use message::Execution;
 use message::Message;
@@ -336,4 +337,9 @@ pub fn write(flat: Flat, out: &mut [u8]) -> Written
 // What holds of the definitions that the contracts above cite.
 pub fn promises()
     ensures { λ _. ⌜ BackAgain ⌝ }
+{}
+
+// What `write` wrote, `read` reads back: nothing is done, the contract says so.
+pub fn read_back()
+    ensures { λ _. ⌜ ReadBack ⌝ }
 {}

@@ -151,7 +151,7 @@ back side (AnswerAcknowledgement x) l pool f r = rw (f, state-back (x .state) (x
 
 -- ---- what was written, where that gave 0
 
-done : (f : Form) (room : ℕ) → resultOf f room ≡ completed → f .allowed ≡ true
+pub done : (f : Form) (room : ℕ) → resultOf f room ≡ completed → f .allowed ≡ true
 unfolding pick
 done f room e = go (ltb room (f .length)) (f .allowed) e
   where

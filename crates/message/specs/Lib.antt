@@ -1,4 +1,5 @@
 pub mod Fields
 pub mod Layout
 pub mod Messages
+pub mod Clauses
 pub mod Promises

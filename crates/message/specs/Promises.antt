@@ -8,7 +8,8 @@ use lib.ListN.{length, take}
 use Rattle.octets.specs.{Pick.pick, Numbers.completed, Numbers.wrongValue, Label.blank, Label.labelAt, declared.label.Label.Label}
 use Rattle.message.specs.Fields.{byte, number, entry, known}
 use Rattle.message.specs.Layout.{formOf, clientSide, masterSide}
-use Rattle.message.specs.Messages.{readOf, poolOf, messageBytes, writtenOf, writtenOver}
+use Rattle.message.specs.Clauses.{BothWays}
+use Rattle.message.specs.Messages.{readOf, poolOf, writtenOf, writtenOver}
 use Rattle.message.specs.{declared.Reading.Reading, declared.Status.the-variants.Started, declared.Status.the-variants.Done}
 use Rattle.message.specs.declared.Message.{Message}
 use Rattle.message.specs.declared.Message.the-variants.{Nothing, CapabilityRequest, CapabilityResponse, MemoryRequest, MemoryResponse, VersionRequest, VersionResponse, ConfigurationRequest, ConfigurationResponse, Transfer, TransferResponse, ActivationCommand, PoolAcknowledgement, DeleteCommand, DeleteResponse, StoreCommand, StoreResponse, LoadCommand, LoadResponse, StateCommand, ClientAbort, Indication, IndicationResponse, Command, Answer, AnswerAcknowledgement}
@@ -116,27 +117,28 @@ Refuses = (side : ℕ) (s : List ℕ) → readOf side s .number ≡ pick (taken 
 
 -- ---- cases
 
-abbrev given : Message → Reading
-given m = record { number = completed; message = m; label = blank }
+-- a message without a label, and its bytes, both ways
+abbrev pub Case : ℕ → List ℕ → Message → Type 0
+Case side bytes m = BothWays side (λ r. bytes) m blank []
 
 pub record MessageCases : Type 0 where
   -- "Command, function 5, state 2, TAN 255, value 240: 33 05 02 FF F0 00 00 00."
   pub command :
-      messageBytes (Command (record { function = 5; state = 2; tan = 255; value = 240 })) blank []
-      ≡ 0x33 ∷ 0x05 ∷ 0x02 ∷ 0xFF ∷ 0xF0 ∷ 0x00 ∷ 0x00 ∷ 0x00 ∷ []
+      Case masterSide (0x33 ∷ 0x05 ∷ 0x02 ∷ 0xFF ∷ 0xF0 ∷ 0x00 ∷ 0x00 ∷ 0x00 ∷ [])
+      (Command (record { function = 5; state = 2; tan = 255; value = 240 }))
   -- "Start, TAN 0: 32 05 42 00 FF FF FF FF"
   pub start :
-      readOf clientSide (0x32 ∷ 0x05 ∷ 0x42 ∷ 0x00 ∷ 0xFF ∷ 0xFF ∷ 0xFF ∷ 0xFF ∷ [])
-      ≡ given (Indication (record { function = 5; state = 2; status = Started; tan = 0; value = 0xFFFFFFFF }))
+      Case clientSide (0x32 ∷ 0x05 ∷ 0x42 ∷ 0x00 ∷ 0xFF ∷ 0xFF ∷ 0xFF ∷ 0xFF ∷ [])
+      (Indication (record { function = 5; state = 2; status = Started; tan = 0; value = 0xFFFFFFFF }))
   -- "finish with 240: 32 05 82 00 F0 00 00 00"
   pub finish :
-      readOf clientSide (0x32 ∷ 0x05 ∷ 0x82 ∷ 0x00 ∷ 0xF0 ∷ 0x00 ∷ 0x00 ∷ 0x00 ∷ [])
-      ≡ given (Indication (record { function = 5; state = 2; status = Done; tan = 0; value = 240 }))
+      Case clientSide (0x32 ∷ 0x05 ∷ 0x82 ∷ 0x00 ∷ 0xF0 ∷ 0x00 ∷ 0x00 ∷ 0x00 ∷ [])
+      (Indication (record { function = 5; state = 2; status = Done; tan = 0; value = 240 }))
   -- "Answer 34 05 82 00 FF FF FF FF": its TAN is byte 5
   pub answer :
-      readOf clientSide (0x34 ∷ 0x05 ∷ 0x82 ∷ 0x00 ∷ 0xFF ∷ 0xFF ∷ 0xFF ∷ 0xFF ∷ [])
-      ≡ given (Answer (record { function = 5; state = 2; status = Done; error = 0; tan = 255 }))
+      Case clientSide (0x34 ∷ 0x05 ∷ 0x82 ∷ 0x00 ∷ 0xFF ∷ 0xFF ∷ 0xFF ∷ 0xFF ∷ [])
+      (Answer (record { function = 5; state = 2; status = Done; error = 0; tan = 255 }))
   -- "acknowledged 34 05 82 FF FF FF FF FF"
   pub acknowledged :
-      messageBytes (AnswerAcknowledgement (record { function = 5; state = 2; status = Done; tan = 255 })) blank []
-      ≡ 0x34 ∷ 0x05 ∷ 0x82 ∷ 0xFF ∷ 0xFF ∷ 0xFF ∷ 0xFF ∷ 0xFF ∷ []
+      Case masterSide (0x34 ∷ 0x05 ∷ 0x82 ∷ 0xFF ∷ 0xFF ∷ 0xFF ∷ 0xFF ∷ 0xFF ∷ [])
+      (AnswerAcknowledgement (record { function = 5; state = 2; status = Done; tan = 255 }))

@@ -14,7 +14,7 @@ pub fn is_pool_code(code: u8) -> bool
     }
 }
 
-// Any other number counts as 11.
+// Of two bits. A number above 11 is no status: who takes one from outside refuses it first (`flat`).
 pub fn status_from(number: u8) -> Status
     ensures { λ r. ⌜ r ≡ statusFrom number ⌝ }
 {

@@ -5,6 +5,7 @@ ghost use Prim.Native.Nat.{_-_};
 ghost use lib.ListN.{length};
 ghost use Rattle.octets.specs.Label.{blank};
 ghost use Rattle.message.specs.Messages.{readOf, poolOf, writtenOf, writtenOver};
+ghost use Rattle.message.specs.Clauses.{Clauses};
 ghost use Rattle.message.specs.Promises.{ComesBack, Refuses, MessageCases};
 ghost use Rattle.message.specs.declared.Message.the-variants.{Transfer};
 use octets::byte_at;
@@ -208,4 +209,9 @@ pub fn promises()
     ensures { λ _. ⌜ ComesBack ⌝ }
     ensures { λ _. ⌜ Refuses ⌝ }
     ensures { λ _. ⌜ MessageCases ⌝ }
+{}
+
+// A message of each clause and its bytes, both ways: nothing is done, the contract says so.
+pub fn clauses()
+    ensures { λ _. ⌜ Clauses ⌝ }
 {}

@@ -99,6 +99,13 @@ module _ (s : List ℕ) (at : ℕ) where
   kind-is (Of h) e r = ap Of (head-are h r)
   kind-is (Refused p) e r = let z : _≡_ {A = ℕ} 0 1 = cc in absurd (omega arith)
 
+  -- its type is 0, 1 or 2
+  pub type-known : (k : Kind) → kindRight k ≡ true → Reads s at (headFields k) → kindAt s at ≤ 2
+  type-known (Of (Base h)) e r = omega (arith, r .1 .0, number-one s (at + 2))
+  type-known (Of (Function h)) e r = omega (arith, r .1 .0, number-one s (at + 2))
+  type-known (Of (State h)) e r = omega (arith, r .1 .0, number-one s (at + 2))
+  type-known (Refused p) e r = let z : _≡_ {A = ℕ} 0 1 = cc in absurd (omega arith)
+
 -- a list has 255 numbers at most
 pub list-most : (k : Kind) → Fit (headFields k) → partsOf k .list ≤ 255
 list-most (Of (Base h)) f = omega (arith, f .1 .1 .1 .1 .1 .1 .1 .1 .1 .0)

@@ -44,13 +44,6 @@ right-short (Of (Function h)) e = record { version = lit≤ tt; configuration = 
 right-short (Of (State h)) e = record { version = lit≤ tt; configuration = lit≤ tt }
 right-short (Refused p) e = record { version = lit≤ tt; configuration = lit≤ tt }
 
--- and an object 8 bytes at least
-pub right-least : (k : Kind) → kindRight k ≡ true → 8 ≤ sizeOf k
-right-least (Of (Base h)) e = omega arith
-right-least (Of (Function h)) e = omega arith
-right-least (Of (State h)) e = omega arith
-right-least (Refused p) e = let z : _≡_ {A = ℕ} 0 1 = cc in absurd (omega arith)
-
 pub record Legal (o : Object) : Type 0 where
   pub kind : kindRight (o .kind) ≡ true
   pub version : blankFrom (partsOf (o .kind) .version) (o .version) ≡ true

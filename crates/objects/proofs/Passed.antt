@@ -20,6 +20,7 @@ use Rattle.pool.specs.StageOne.{Fault, codeOf, bytesLeft, isBase, faultsAt, cod
 use Rattle.pool.specs.StageTwo.{stageTwo}
 use Rattle.pool.specs.Pool.{verdictOf}
 use Rattle.pool.proofs.Faults.{first-fault, walk-here, walk-next}
+use Rattle.pool.proofs.Walk.{size-least}
 use Rattle.objects.specs.declared.Kind.the-variants.{Of}
 use Rattle.objects.specs.Objects.{isAt, labelsRight, kindRight}
 use Rattle.objects.proofs.Limits.{and-l, and-r}
@@ -54,6 +55,11 @@ code-late : (b : Bool) (c : ℕ) (fs : List Fault) → codeOf ((b, suc c) ∷ fs
 unfolding codeOf pick
 code-late true c fs e = absurd (omega arith)
 code-late false c fs e = (refl, e)
+
+no-wrong : (a b : Bool) → (a ≡ true → b ≡ true) → (a && not b) ≡ false
+no-wrong true true h = refl
+no-wrong true false h = sym (h refl)
+no-wrong false b h = refl
 
 right-where : (a b : Bool) → a ≡ true → (a && not b) ≡ false → b ≡ true
 right-where true true t e = refl
@@ -113,6 +119,24 @@ module _ (s : List ℕ) (at : ℕ) where
         room = omega (arith, ltb-false (bytesLeft s at) (sizeAt s at) (cut .0), ltb-false (bytesLeft s at) 3 (three .0));
         right = rw (labels, not-false (headRight (headAt s at)) (ranges .0));
       }
+
+  -- and where all of this holds, it finds none
+  pub no-fault : Passed s at → codeAt s at ≡ 0
+  unfolding faultsAt codeOf pick
+  no-fault p =
+      let three : ltb (bytesLeft s at) 3 ≡ false = le-ltb (bytesLeft s at) 3 (omega (arith, p .room, size-least s at)) in
+      let known : ltb stateType (kindAt s at) ≡ false = le-ltb stateType (kindAt s at) (p .kind) in
+      let fixed : ltb (bytesLeft s at) (fixedOf (kindAt s at)) ≡ false = le-ltb (bytesLeft s at) (fixedOf (kindAt s at)) (omega (arith, p .room)) in
+      let cut : ltb (bytesLeft s at) (sizeAt s at) ≡ false = le-ltb (bytesLeft s at) (sizeAt s at) (omega (arith, p .room)) in
+      let labels : labelsRight (headAt s at) ≡ true = and-l (labelsRight (headAt s at)) (headRight (headAt s at)) (p .right) in
+      let ranges : headRight (headAt s at) ≡ true = and-r (labelsRight (headAt s at)) (headRight (headAt s at)) (p .right) in
+      let both : isBase s at ≡ true → (labelRight (baseAt s at .n) && labelRight (baseAt s at .m)) ≡ true =
+      λ b. rw (base-here (eqb-true (kindAt s at) baseType b)) at labels in
+      let x : Bool = labelRight (baseAt s at .n) in
+      let y : Bool = labelRight (baseAt s at .m) in
+      let n : (isBase s at && not x) ≡ false = no-wrong (isBase s at) x (λ b. and-l x y (both b)) in
+      let m : (isBase s at && not y) ≡ false = no-wrong (isBase s at) y (λ b. and-r x y (both b)) in
+      rw (three, known, fixed, n, m, cut, ranges)
 
 -- ---- an accepted pool, from a place on
 

@@ -4,14 +4,15 @@ use native.Mathlib.Nat.{lt-of-not-le}
 use native.Mathlib.Decide.{decLe}
 use native.Mathlib.Omega.{arith}
 use mathlib.Core.Path.{_≡_, refl, sym, ap, _∙_, subst}
-use mathlib.Core.List.{List, [], _∷_, _++_, map}
-use mathlib.Core.Bool.{Bool, true, _&&_}
+use mathlib.Core.List.{List, [], _∷_, _++_, map, append-assoc}
+use mathlib.Core.Bool.{Bool, true, false, _&&_}
 use lib.ListN.{length, take, drop, length-append, length-drop, length-replicate, take-append-drop, drop-of-length-le}
-use lib.Seq.{drop-drop, length-take-le, length-sets}
+use lib.Seq.{sets, sets-eq, drop-at, drop-drop, length-take-le, length-sets}
 use lib.Dec.{ltb, lit<}
-use borrow.Author.Tests.{ltb-true}
+use borrow.Author.Tests.{ltb-true, ltb-false}
 use Rattle.octets.specs.Pick.{pick}
 use Rattle.octets.proofs.Laws.{Bytes, past}
+use Rattle.octets.specs.Numbers.{tooShort}
 use Rattle.octets.specs.Octets.{numberAt}
 use Rattle.octets.specs.Label.{labelAt}
 use Rattle.pool.specs.Verdicts.{first, firstOf}
@@ -25,14 +26,15 @@ use Rattle.pool.proofs.Walk.{size-least, places-end, places-next}
 use Rattle.objects.specs.declared.Kind.{Kind}
 use Rattle.objects.specs.declared.Kind.the-variants.{Of}
 use Rattle.objects.specs.declared.Object.{Object}
-use Rattle.objects.specs.Objects.{partsOf, sizeOf, wholeAt, decode, field, headFields, fieldsOf, encode, kindRight, legal, decodeAll, encodeAll}
+use Rattle.objects.specs.declared.Written.{Written}
+use Rattle.objects.specs.Objects.{partsOf, sizeOf, wholeAt, decode, nextAt, foundAt, field, headFields, fieldsOf, encode, kindRight, legal, written, noRoom, writeAnswer, writeOut, decodeAll, encodeAll}
 use Rattle.objects.specs.RoundTrip.{LegalObject, AllLegal, RoundTrip}
 use Rattle.objects.proofs.Stores.{total, total-numbers, length-fields}
-use Rattle.objects.proofs.Limits.{and-l, and-r, right-short, right-least, is-legal, total-head, version-total, configuration-total, total-fields}
+use Rattle.objects.proofs.Limits.{and-l, and-r, right-short, is-legal, total-head, version-total, configuration-total, total-fields}
 use Rattle.objects.proofs.Cells.{take-cells, cells-blank, cells-are}
 use Rattle.objects.proofs.Whole.{versionAt, configurationAt, listAt, apart, whole-apart}
-use Rattle.objects.proofs.Passed.{Passed, IsAt, Fine, at-is, by-kind, passed, accepted, fine-here, fine-next}
-use Rattle.objects.proofs.Fields.{Reads, fields-written, fields-read, reads-fit, reads-both, reads-first, reads-then, numbers-read, numbers-are, head-reads, kind-is, list-most, fit-first}
+use Rattle.objects.proofs.Passed.{Passed, IsAt, Fine, at-is, by-kind, passed, no-fault, accepted, fine-here, fine-next}
+use Rattle.objects.proofs.Fields.{Reads, fields-written, fields-read, reads-fit, reads-both, reads-first, reads-then, numbers-read, numbers-are, head-reads, kind-is, type-known, list-most, fit-first}
 
 -- ---- an object that is read
 
@@ -125,9 +127,12 @@ module _ (o : Object) (g : LegalObject o) where
   length-encode = length-fields (fieldsOf o) ∙ total-fields o version-fits configuration-fits list-fits
 
 module _ (s : List ℕ) (at : ℕ) (o : Object) (rest : List ℕ) (g : LegalObject o) (e : drop at s ≡ encode o ++ rest) where
+  fields-here : Reads s at (fieldsOf o)
+  unfolding encode
+  fields-here = fields-read s (fieldsOf o) at rest e (g .fields)
+
   -- is read from the bytes that it was written as
   pub whole-is : wholeAt s at ≡ o
-  unfolding encode
   whole-is =
       let legal = is-legal o (g .right) in
       let q = partsOf (o .kind) in
@@ -136,8 +141,7 @@ module _ (s : List ℕ) (at : ℕ) (o : Object) (rest : List ℕ) (g : LegalObje
       let v : List ℕ = take (q .version) (o .version) in
       let c : List ℕ = take (q .configuration) (o .configuration) in
       let l : List ℕ = take (q .list) (o .list) in
-      let r0 : Reads s at (fieldsOf o) = fields-read s (fieldsOf o) at rest e (g .fields) in
-      let r1 : Reads s (at + q .fixed) (map (field 1) v ++ (map (field 1) c ++ map (field 2) l)) = rw total-head at (reads-then s (headFields (o .kind)) _ at r0) in
+      let r1 : Reads s (at + q .fixed) (map (field 1) v ++ (map (field 1) c ++ map (field 2) l)) = rw total-head at (reads-then s (headFields (o .kind)) _ at fields-here) in
       let hv = version-fits o g in
       let hc = configuration-fits o g in
       let r2 : Reads s (at + q .fixed + q .version) (map (field 1) c ++ map (field 2) l) = rw (version-total o hv hc) at (reads-then s (map (field 1) v) _ (at + q .fixed) r1) in
@@ -145,7 +149,7 @@ module _ (s : List ℕ) (at : ℕ) (o : Object) (rest : List ℕ) (g : LegalObje
       let ev : numbersAt 1 s (at + q .fixed) (q .version) ≡ v = rw (length-take-le (q .version) (o .version) hv) at (numbers-are s 1 (at + q .fixed) v (reads-first s (map (field 1) v) _ _ r1)) in
       let ec : numbersAt 1 s (at + q .fixed + q .version) (q .configuration) ≡ c = rw (length-take-le (q .configuration) (o .configuration) hc) at (numbers-are s 1 (at + q .fixed + q .version) c (reads-first s (map (field 1) c) _ _ r2)) in
       let el : numbersAt 2 s (at + q .fixed + q .version + q .configuration) (q .list) ≡ l = rw (length-take-le (q .list) (o .list) most) at (numbers-are s 2 (at + q .fixed + q .version + q .configuration) l r3) in
-      let kind = kind-is s at (o .kind) (legal .kind) (reads-first s (headFields (o .kind)) _ at r0) in
+      let kind = kind-is s at (o .kind) (legal .kind) (reads-first s (headFields (o .kind)) _ at fields-here) in
       whole-apart s at (rw kind short)
       ∙ rw (
         kind,
@@ -154,9 +158,24 @@ module _ (s : List ℕ) (at : ℕ) (o : Object) (rest : List ℕ) (g : LegalObje
         cells-are 255 (q .list) _ (o .list) (omega (arith, g .list)) (g .list) (legal .list) el,
       )
 
-  size-same : Passed s at → sizeAt s at ≡ length (encode o)
+  kind-same : Of (headAt s at) ≡ o .kind
   unfolding wholeAt
-  size-same p = size-is s at (p .kind) ∙ ap (λ (x : Object). sizeOf (x .kind)) whole-is ∙ sym (length-encode o g)
+  kind-same = ap (λ (x : Object). x .kind) whole-is
+
+  known-here : kindAt s at ≤ 2
+  known-here = type-known s at (o .kind) (legal-kind o g) (reads-first s (headFields (o .kind)) _ at fields-here)
+
+  size-same : sizeAt s at ≡ length (encode o)
+  size-same = size-is s at known-here ∙ ap sizeOf kind-same ∙ sym (length-encode o g)
+
+  -- and passes stage one there
+  passed-here : Passed s at
+  passed-here =
+      record {
+        kind = known-here;
+        room = omega (arith, size-same, size-least s at, length-drop at s, ap length e, length-append (encode o) rest);
+        right = ap kindRight kind-same ∙ legal-kind o g;
+      }
 
 -- ---- a pool
 
@@ -194,15 +213,36 @@ module _ (s : List ℕ) (B : Bytes s) where
             rest-next at (fine-here s at b f) (rest-of n (at + sizeAt s at) (omega (arith, size-least s at)) (fine-next s at b f))
       ]
 
--- objects that stand in s from a place on are read there
-rest-read : (os : List Object) (s : List ℕ) (at : ℕ) → Bytes s → Fine s at → AllLegal os → drop at s ≡ encodeAll os → map (decode s) (placesFrom s at) ≡ os
+-- legal objects that stand in s from a place on are read there
+rest-read : (os : List Object) (s : List ℕ) (at : ℕ) → length s ≤ 16384 → AllLegal os → drop at s ≡ encodeAll os → map (decode s) (placesFrom s at) ≡ os
 unfolding encodeAll
-rest-read [] s at B f g e = ap (map (decode s)) (places-end s at (omega (arith, length-drop at s, ap length e)))
-rest-read (o ∷ os) s at B f g e =
-    let b : at < length s = omega (arith, length-encode o (g .0), right-least (o .kind) (legal-kind o (g .0)), length-drop at s, ap length e, length-append (encode o) (encodeAll os)) in
-    let i = fine-here s at b f in
-    let d : drop (at + sizeAt s at) s ≡ encodeAll os = past s at (sizeAt s at) (encode o) (encodeAll os) (sym (size-same s at o (encodeAll os) (g .0) e (passed s at (i .right)))) e in
-    rw (places-next s at b, decoded s at i, whole-is s at o (encodeAll os) (g .0) e, rest-read os s (at + sizeAt s at) B (fine-next s at b f) (g .1) d)
+rest-read [] s at h g e = ap (map (decode s)) (places-end s at (omega (arith, length-drop at s, ap length e)))
+rest-read (o ∷ os) s at h g e =
+    let p = passed-here s at o (encodeAll os) (g .0) e in
+    let b : at < length s = omega (arith, p .room, size-least s at) in
+    let d : drop (at + sizeAt s at) s ≡ encodeAll os = past s at (sizeAt s at) (encode o) (encodeAll os) (sym (size-same s at o (encodeAll os) (g .0) e)) e in
+    rw (places-next s at b, decoded s at (record { short = h; within = b; right = no-fault s at p }), whole-is s at o (encodeAll os) (g .0) e, rest-read os s (at + sizeAt s at) h (g .1) d)
+
+-- ---- one object, by the calls
+
+has-room : (b : Bool) (at : ℕ) (w : Written) → pick b (written tooShort at) w .number ≡ 0 → b ≡ false
+unfolding pick
+has-room true at w e = absurd (omega arith)
+has-room false at w e = refl
+
+again : (o : Object) (out : List ℕ) (at : ℕ) → LegalObject o → length out ≤ 16384 → writeAnswer o out at .number ≡ 0 → foundAt (writeOut o out at) at ≡ record { object = o; next = writeAnswer o out at .next }
+unfolding writeAnswer writeOut nextAt pick
+again o out at g short e =
+    let s : List ℕ = sets out at (encode o) in
+    let rest : List ℕ = drop (at + length (encode o)) out in
+    let free : noRoom o out at ≡ false = has-room (noRoom o out at) at _ e in
+    let room : at + length (encode o) ≤ length out = omega (arith, ltb-false (length out) (at + sizeOf (o .kind)) free, length-encode o g) in
+    let stands : drop at s ≡ encode o ++ rest =
+    ap (drop at) (sets-eq (encode o) out at room ∙ append-assoc (take at out) (encode o) rest)
+    ∙ drop-at (take at out) (encode o ++ rest) at (length-take-le at out (omega arith)) in
+    let p = passed-here s at o rest g stands in
+    let i : IsAt s at = record { short = rw (length-sets out at (encode o)) short; within = omega (arith, p .room, size-least s at); right = no-fault s at p } in
+    rw (free, g .right, decoded s at i, at-is s at i, whole-is s at o rest g stands, size-same s at o rest g stands, length-encode o g)
 
 -- ---- two pools that are accepted
 
@@ -222,7 +262,8 @@ round-trip =
     record {
       apart = λ s a. rest-of s (a .bytes) (length s) 0 (omega arith) (accepted s (a .success)) .legal;
       written = λ s a. rest-of s (a .bytes) (length s) 0 (omega arith) (accepted s (a .success)) .written;
-      read = λ os g a. rest-read os (encodeAll os) 0 (a .bytes) (accepted (encodeAll os) (a .success)) g refl;
+      again = again;
+      read = λ os g h. rest-read os (encodeAll os) 0 h g refl;
       one = record { bytes = bytes-of (base 1 1 ++ function) refl; success = refl };
       other = record { bytes = bytes-of (function ++ base 63 1) refl; success = refl };
       differ = λ e. let n : _≡_ {A = ℕ} 61 123 = ap length e in omega arith;

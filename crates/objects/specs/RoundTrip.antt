@@ -1,14 +1,14 @@
 -- A pool taken apart and written again, and objects written and taken apart again: each gives back what it was given. 01, "How far each promise
 -- goes": "Shut out are: refusing everything (by the pool definition ..); a fixed reply (round trip over differing pools)". The function
 -- `round_trip` of the crate ensures these statements.
-use Prim.Native.Nat.{ℕ, _<_, _^_}
+use Prim.Native.Nat.{ℕ, _≤_, _<_, _^_}
 use mathlib.Core.Path.{_≡_}
 use mathlib.Core.Bool.{true}
 use mathlib.Core.List.{List, [], _∷_, _++_}
 use lib.ListN.{length, getD}
 use Rattle.pool.specs.{Pool.verdictOf, Cases.base, Cases.function}
 use Rattle.objects.specs.declared.Object.{Object}
-use Rattle.objects.specs.Objects.{Field, fieldsOf, legal, decodeAll, encodeAll}
+use Rattle.objects.specs.Objects.{foundAt, Field, fieldsOf, legal, writeAnswer, writeOut, decodeAll, encodeAll}
 
 -- an accepted pool: bytes on which the check's verdict is "Success .. 00"
 pub record Accepted (s : List ℕ) : Type 0 where
@@ -36,8 +36,15 @@ pub record RoundTrip : Type 0 where
   -- the objects of every accepted pool are legal, and are written as the pool's bytes
   pub apart : (s : List ℕ) → Accepted s → AllLegal (decodeAll s)
   pub written : (s : List ℕ) → Accepted s → encodeAll (decodeAll s) ≡ s
-  -- legal objects that make an accepted pool are read from it
-  pub read : (os : List Object) → AllLegal os → Accepted (encodeAll os) → decodeAll (encodeAll os) ≡ os
+  -- "a legal one, once written, reads back the same": legal objects of "At most 16,384 bytes", whether or not they make a pool that stage two accepts
+  pub read : (os : List Object) → AllLegal os → length (encodeAll os) ≤ 16384 → decodeAll (encodeAll os) ≡ os
+  -- the same of one object, over the calls: what `write_object` wrote at a place, `object_at` reads there
+  pub again :
+      (o : Object) (out : List ℕ) (at : ℕ) →
+      LegalObject o →
+      length out ≤ 16384 →
+      writeAnswer o out at .number ≡ 0 →
+      foundAt (writeOut o out at) at ≡ record { object = o; next = writeAnswer o out at .next }
   -- two accepted pools that differ
   pub one : Accepted (base 1 1 ++ function)
   pub other : Accepted (function ++ base 63 1)

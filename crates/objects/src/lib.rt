@@ -11,6 +11,7 @@ use pool::Head;
 ghost use mathlib.Core.Path.{_≡_};
 ghost use Rattle.objects.specs.Objects.{foundAt, writeAnswer, writeOut};
 ghost use Rattle.objects.specs.RoundTrip.{RoundTrip};
+ghost use Rattle.objects.specs.Tables.{Tables};
 
 // The type of an object with the numbers of its fixed part; or the place at which no object could be read.
 pub enum Kind {
@@ -85,4 +86,9 @@ pub fn write_object(object: Object, out: &mut [u8], at: usize) -> Written
 // contract says so.
 pub fn round_trip()
     ensures { λ _. ⌜ RoundTrip ⌝ }
+{}
+
+// Which byte of a pool is which field: nothing is done, the contract says so.
+pub fn tables()
+    ensures { λ _. ⌜ Tables ⌝ }
 {}

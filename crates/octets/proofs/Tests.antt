@@ -1,5 +1,4 @@
 -- What the tests that led to a return say of a choice, and `tests`, by which `search` puts them to use.
-use Prim.Native.Nat.{ℕ}
 use mathlib.Core.Path.{_≡_, sym, _∙_, ap}
 use mathlib.Core.Bool.{Bool, true, false, not}
 use borrow.Author.Tests.{eq-eqb, ne-eqb, le-leb, lt-leb, le-ltb, lt-ltb, not-true, not-false}
@@ -15,7 +14,7 @@ module _ {X : Type 0} (b : Bool) (x y : X) where
   pick-false e = rw e
 
 -- what holds of both choices holds of the one made
-pub pick-both : (P : ℕ → Type 0) (b : Bool) {x y : ℕ} → P x → P y → P (pick b x y)
+pub pick-both : {X : Type 0} (P : X → Type 0) (b : Bool) {x y : X} → P x → P y → P (pick b x y)
 unfolding pick
 pick-both P true p q = p
 pick-both P false p q = q

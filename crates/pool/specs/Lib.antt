@@ -6,3 +6,6 @@ pub mod StageTwo
 pub mod Search
 pub mod Pool
 pub mod Cases
+pub mod Codes
+pub mod Edges
+pub mod Sample

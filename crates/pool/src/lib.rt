@@ -7,6 +7,8 @@ pub mod stage_two;
 ghost use mathlib.Core.Path.{_≡_};
 ghost use Rattle.pool.specs.Pool.{verdictOf};
 ghost use Rattle.pool.specs.Cases.{Cases};
+ghost use Rattle.pool.specs.Codes.{Codes};
+ghost use Rattle.pool.specs.Edges.{Edges};
 
 // A code of D.9, 0 for success, and the number of the object it is about.
 #[repr(C)]
@@ -99,4 +101,14 @@ pub fn check(pool: &[u8]) -> Verdict
 // The worked cases of document 01 that concern pools hold of the definition: nothing is done, the contract says so.
 pub fn cases()
     ensures { λ _. ⌜ Cases ⌝ }
+{}
+
+// Which codes the check gives, and that each is given: nothing is done, the contract says so.
+pub fn codes()
+    ensures { λ _. ⌜ Codes ⌝ }
+{}
+
+// The ranges at their edges, in codes that pools get: nothing is done, the contract says so.
+pub fn edges()
+    ensures { λ _. ⌜ Edges ⌝ }
 {}

@@ -7,6 +7,7 @@ ghost use Rattle.pool.specs.Fields.{stateType, numbersAt, statesOf};
 ghost use Rattle.pool.specs.StageTwo.{idOf};
 ghost use Rattle.pool.specs.Search.Index.{Indexed};
 ghost use Rattle.profile.specs.Profile.{bitsOf, tableOf, triggerIn, statesIn, keptAt, keptOfPool, blankProfile, profileOf, trigger, hasState, Says};
+ghost use Rattle.profile.specs.Promises.{SaysOf, KeptOf};
 use octets::has_bit;
 use octets::label::Label;
 use octets::label::blank;
@@ -177,3 +178,9 @@ pub fn profile_of(pool: &[u8]) -> Profile
     }
     kept(pool)
 }
+
+// What is kept of every accepted pool says what its lists say, and what is kept of one: nothing is done, the contract says so.
+pub fn says()
+    ensures { λ _. ⌜ SaysOf ⌝ }
+    ensures { λ _. ⌜ KeptOf ⌝ }
+{}

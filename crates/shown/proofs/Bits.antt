@@ -41,7 +41,7 @@ within b t =
     rw (ofBits-is, lt-leb 0x8000_0000 b (omega arith)) (fields (b % 0x8000_0000 / 0x80_0000) (b % 0x80_0000) (omega arith) (omega arith) (omega arith))
 
 -- ---- any other bits are zero, a negative, an infinity or a NaN
-at-zero : positive (ofBits binary32 0) ≡ false
+pub at-zero : positive (ofBits binary32 0) ≡ false
 unfolding ofBits ofFields odd
 at-zero = refl
 

@@ -3,6 +3,7 @@ ghost use mathlib.Core.Path.{_≡_};
 ghost use lib.Ieee.{binary32, ofBits};
 ghost use lib.Ieee.Positive.{positive};
 ghost use Rattle.shown.specs.Value.{shownOf, Exact};
+ghost use Rattle.shown.specs.Promises.{ShownValue};
 ghost use Rattle.shown.specs.Examples.{ShownExamples};
 use octets::numbers::DONE;
 use octets::numbers::WRONG_VALUE;
@@ -59,4 +60,9 @@ pub fn shown_of(value: u32, offset: i32, scale: f32) -> Shown
 // The worked examples hold of the definitions that the contracts above cite.
 pub fn examples()
     ensures { λ _. ⌜ ShownExamples ⌝ }
+{}
+
+// The rules of the shown value hold of the definition that the contracts above cite: nothing is done, the contract says so.
+pub fn promises()
+    ensures { λ _. ⌜ ShownValue ⌝ }
 {}

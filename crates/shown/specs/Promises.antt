@@ -1,0 +1,25 @@
+-- 01, "The shown value", of every value, every offset and the 32 bits of every scale. 1 to 7F7FFFFF are the bits of the f32s that are finite and above
+-- zero. The function `promises` of the crate ensures these statements.
+use Prim.Native.Nat.{ℕ, _≤_, _<_}
+use mathlib.Core.Path.{_≡_}
+use lib.IntN.{ℤ, pos, _+ℤ_, natAbs}
+use lib.Ieee.{binary32, binary64, ofBits}
+use Rattle.shown.specs.Value.{IsProduct, shownOf}
+use Rattle.shown.specs.declared.Shown.{Shown}
+
+abbrev shownAt : ℕ → ℤ → ℕ → Shown
+shownAt value offset bits = shownOf value offset (ofBits binary32 bits)
+
+pub record ShownValue : Type 0 where
+  -- "Below 2^29 in magnitude of the sum it is exact."
+  pub exact :
+      (value : ℕ) (offset : ℤ) (bits : ℕ) →
+      1 ≤ bits →
+      bits ≤ 0x7F7F_FFFF →
+      natAbs (pos value +ℤ offset) < 536_870_912 →
+      IsProduct (shownAt value offset bits .value) (pos value +ℤ offset) (ofBits binary32 bits)
+  -- a scale finite and above zero is never refused
+  pub given : (value : ℕ) (offset : ℤ) (bits : ℕ) → 1 ≤ bits → bits ≤ 0x7F7F_FFFF → shownAt value offset bits .number ≡ 0
+  -- "A scale not finite and above zero, as style 00 has it, gives 4 and value 0."
+  pub zero : (value : ℕ) (offset : ℤ) → shownAt value offset 0 ≡ record { number = 4; value = ofBits binary64 0 }
+  pub above : (value : ℕ) (offset : ℤ) (bits : ℕ) → 0x7F7F_FFFF < bits → shownAt value offset bits ≡ record { number = 4; value = ofBits binary64 0 }
