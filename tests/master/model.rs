@@ -23,7 +23,7 @@ pub enum Report {
 }
 
 impl Report {
-    /// The codes of F.3. "a report of no known state" is none.
+    /// The numbers of decoded reports. "a report of no known state" is none.
     pub fn of(number: u32) -> Option<Report> {
         match number {
             0 => Some(Report::Disabled),

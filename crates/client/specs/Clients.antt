@@ -12,7 +12,7 @@ use Rattle.client.specs.declared.Test.the-variants.{Awake, Enabled, Name
 abbrev pub slotCount : ℕ
 slotCount = 8
 
--- a report, as F.3 numbers them: 0 disabled, 1 ready, 2 record, 4 playback, 5 abort
+-- a report; "status reports come in as decoded reports", so the numbering is the library's own: 0 disabled, 1 ready, 2 record, 4 playback, 5 abort
 abbrev pub disabledReport : ℕ
 disabledReport = 0
 

@@ -11,7 +11,7 @@ use profile::blank_profile;
 // How many slots there are.
 pub const SLOTS: usize = 8;
 
-// A client's last report, as F.3 numbers them. A number that is not here counts as playback.
+// A client's last report; the numbering is the library's own. A number that is not here counts as playback.
 pub const DISABLED: u8 = 0;
 
 pub const READY: u8 = 1;

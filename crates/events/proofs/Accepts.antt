@@ -1,6 +1,6 @@
 -- The ticks and answers that are never refused: no test of their refusals holds.
 use Prim.Native.Nat.{ℕ, zero, suc, _+_, _≤_, _<_}
-use mathlib.Core.Path.{_≡_, refl, ap, _∙_}
+use mathlib.Core.Path.{_≡_, refl, ap, subst, _∙_}
 use mathlib.Core.Bool.{Bool, true, false, cond}
 use mathlib.Core.List.{List, [], _∷_}
 use native.Mathlib.Omega.{arith}
@@ -10,12 +10,13 @@ use borrow.Author.Tests.{eq-eqb, ne-eqb, lt-leb, le-ltb}
 use Rattle.octets.specs.Pick.{pick}
 use Rattle.octets.specs.Numbers.{completed}
 use Rattle.octets.proofs.Tests.{pick-false}
-use Rattle.client.specs.Clients.{slotCount, isTaken}
+use Rattle.client.specs.Clients.{isTaken}
 use Rattle.arrays.specs.Arrays.{firstFrom}
 use Rattle.sequence.specs.Sequence.{blankStep}
 use Rattle.sequence.specs.declared.Step.{Step}
 use Rattle.sequence.specs.declared.Sequence.{Sequence}
 use Rattle.message.specs.declared.Reply.{Reply}
+use Rattle.recording.proofs.Steps.{both}
 use Rattle.playback.specs.declared.Playback.{Playback}
 use Rattle.playback.specs.declared.Answered.{Answered}
 use Rattle.playback.specs.declared.Sent.{Sent}
@@ -33,6 +34,7 @@ use Rattle.events.specs.Events.{tick, answer, apply, Given}
 use Rattle.events.specs.Demand1.{MatchesSent, NeverRefused}
 use Rattle.events.proofs.Choices.{chosen}
 use Rattle.events.proofs.Regular.{Regular, length-steps, given-regular}
+use Rattle.events.proofs.Playable.{Enabled, playable}
 
 ticks :
     (m : Master) (mm : ℕ) (out : List ℕ)
@@ -42,7 +44,7 @@ unfolding pick refusal outcomeOf tickCall
 ticks m mm out h k l = rw (le-ltb (length out) 576 k, le-ltb 65535 mm l, ne-eqb (m .state) 0 h)
 
 -- a step that is found gives 0, whatever the answer says
-found-number :
+pub found-number :
     (p : Playback) (q : Sequence) (slot : ℕ) (r : Reply)
     → findAnswered (q .steps) (p .commands) (p .sent) slot (r .tan) (r .function) (r .state) < 64
     → answeredOf p q slot r .number ≡ completed
@@ -73,7 +75,7 @@ in-pairs (x ∷ a) (y ∷ b) zero h k = omega arith
 in-pairs (x ∷ a) (y ∷ b) (suc i) h k = omega (arith, in-pairs a b i (omega arith) (omega arith))
 
 -- a playback that calls give has 64 cells in both arrays, and at most 64 steps are sent
-found :
+pub found :
     (m : Master) (slot : ℕ) (r : Reply) → Regular m → MatchesSent m slot r
     → findAnswered (m .sequence .steps) (m .playback .commands) (m .playback .sent) slot (r .tan) (r .function) (r .state) < 64
 unfolding findAnswered
@@ -98,11 +100,13 @@ found m slot r g h =
 
 answers :
     (m : Master) (slot : ℕ) (msg out : List ℕ)
-    → Given m → m .state ≡ state.playback → 8 ≤ length out → isAnswer msg ≡ true → slot < slotCount → isTaken (slotAt m slot) ≡ true → MatchesSent m slot (replyIn msg)
+    → Given m → m .state ≡ state.playback → 8 ≤ length out → isAnswer msg ≡ true → MatchesSent m slot (replyIn msg)
     → apply m (answer slot msg out) .number ≡ completed
 unfolding pick refusal outcomeOf answerCall unmatched
-answers m slot msg out g s k a l t f =
-    rw (le-ltb (length out) 8 k, a, lt-leb 8 slot l, t, s, found-number (m .playback) (m .sequence) slot (replyIn msg) (found m slot (replyIn msg) (given-regular m g) f))
+answers m slot msg out g s k a f =
+    let r = given-regular m g in
+    let p = subst (λ (i : ℕ). Enabled m i) (f .slot-matches) (playable m g s (f .step) (omega (arith, f .sent, r .sent)) .client) in
+    rw (le-ltb (length out) 8 k, a, lt-leb 8 slot (p .0), both (isTaken (slotAt m slot)) _ (both _ _ (p .1) .0) .0, s, found-number (m .playback) (m .sequence) slot (replyIn msg) (found m slot (replyIn msg) r f))
 
 pub never-refused : NeverRefused
 never-refused = record { ticks = ticks; answers = answers }

@@ -34,7 +34,7 @@ use Rattle.master.specs.Recording.{isCounted, isInterruption, untimely, recordi
 use Rattle.master.specs.Playback.{answered, replied}
 use Rattle.master.specs.Tick.{recordingTicked, playbackTicked, ticked}
 use Rattle.events.specs.Events.{Event, «record», stop, start, report, lost, indication, tick, answer, whichCall}
-use Rattle.events.specs.Causes.{Cause, clientLost, clientReports, interrupts}
+use Rattle.events.proofs.Outside.{Outside, clientLost, clientReports, interrupts}
 use Rattle.events.proofs.Choices.{chosen-by, either, is-false}
 
 -- ---- the changes
@@ -63,7 +63,7 @@ pub data Change (m : Master) : Event → Master → Type 0 where
   -- a recording is over and not kept, by a call that is neither stop nor an E.4
   dropped : {e : Event} {k : Master} → Near m k → isRecording m ≡ true → 2 ≤ whichCall e → Change m e (ended k state.ready)
   -- a playback is over for a cause, by a call that is neither a tick nor an answer
-  broken : {e : Event} {k : Master} → Near m k → isPlaying m ≡ true → Cause m e → Change m e (ended k state.abort)
+  broken : {e : Event} {k : Master} → Near m k → isPlaying m ≡ true → Outside m e → Change m e (ended k state.abort)
   -- a recording starts, waits for its open steps, is over and kept
   recordStarts : Rests (m .state) → Change m «record» (withState (withRecording m blankRecording) state.recording)
   recordWaits : isRecording m ≡ true → Change m stop (withState m state.recordComplete)
@@ -91,7 +91,7 @@ low s h = (λ e. omega arith, λ e. omega arith, λ e. omega arith)
 pub high : (s : ℕ) → state.abort ≤ s → Rests s
 high s h = (λ e. omega arith, λ e. omega arith, λ e. omega arith)
 
-one-of : (a b : Bool) → (a || b) ≡ true → (a ≡ true) ⊎ (b ≡ true)
+pub one-of : (a b : Bool) → (a || b) ≡ true → (a ≡ true) ⊎ (b ≡ true)
 one-of true b e = inl refl
 one-of false b e = inr e
 
@@ -129,12 +129,12 @@ module _ (m : Master) where
         (λ _. rested n aside)
 
     followed-change :
-        (i : ℕ) (s : Client) (over : Bool) → (over ≡ true → (isRecording m ≡ true) ⊎ ((isPlaying m ≡ true) × Cause m e))
+        (i : ℕ) (s : Client) (over : Bool) → (over ≡ true → (isRecording m ≡ true) ⊎ ((isPlaying m ≡ true) × Outside m e))
         → Change m e (followed over (withSlot m i s))
     unfolding followed endOf
     followed-change i s over c = chosen-by (Change m e) over _ _ (λ t. go (c t)) (λ _. settled-change (withSlot m i s) (slotted i s) refl)
       where
-        go : (isRecording m ≡ true) ⊎ ((isPlaying m ≡ true) × Cause m e) → Change m e (ended (withSlot m i s) (endOf (m .state)))
+        go : (isRecording m ≡ true) ⊎ ((isPlaying m ≡ true) × Outside m e) → Change m e (ended (withSlot m i s) (endOf (m .state)))
         go (inl r) = rw (pick-false (isPlaying m) state.abort state.ready (not-playing r)) (dropped (slotted i s) r silent)
         go (inr p) = rw (pick-true (isPlaying m) state.abort state.ready (p .0)) (broken (slotted i s) (p .0) (p .1))
 
@@ -142,8 +142,8 @@ module _ (m : Master) where
   over-cause :
       (s : Client) (said : ℕ) (e : Event) → isOver (m .state) s said ≡ true
       → (isEnabled s ≡ true
-      → (eqb said client.disabledReport ≡ true) ⊎ ((eqb said client.recordReport ≡ true) ⊎ (eqb said client.abortReport ≡ true)) → Cause m e)
-      → (isRecording m ≡ true) ⊎ ((isPlaying m ≡ true) × Cause m e)
+      → (eqb said client.disabledReport ≡ true) ⊎ ((eqb said client.recordReport ≡ true) ⊎ (eqb said client.abortReport ≡ true)) → Outside m e)
+      → (isRecording m ≡ true) ⊎ ((isPlaying m ≡ true) × Outside m e)
   over-cause s said e t cause =
       let b = both (isEnabled s) _ t in go (b .0) (one-of _ _ (b .1))
     where
@@ -159,7 +159,7 @@ module _ (m : Master) where
       go : isEnabled s ≡ true
           → ((isRecording m && eqb said client.disabledReport) ≡ true)
           ⊎ ((isPlaying m && (eqb said client.disabledReport || (eqb said client.recordReport || eqb said client.abortReport))) ≡ true)
-          → (isRecording m ≡ true) ⊎ ((isPlaying m ≡ true) × Cause m e)
+          → (isRecording m ≡ true) ⊎ ((isPlaying m ≡ true) × Outside m e)
       go n (inl x) = inl (both (isRecording m) _ x .0)
       go n (inr x) = let b = both (isPlaying m) _ x in inr (b .0, cause n (which (b .1)))
 
@@ -175,7 +175,7 @@ module _ (m : Master) where
 
   -- ---- a report
 
-  reported-number : (number k : ℕ) → eqb (reportFrom number) k ≡ true → k < noReport → number ≡ k
+  pub reported-number : (number k : ℕ) → eqb (reportFrom number) k ≡ true → k < noReport → number ≡ k
   unfolding reportFrom pick
   reported-number number k e l = go (isReport number) e
     where

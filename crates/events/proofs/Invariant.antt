@@ -1,8 +1,8 @@
 -- What every call keeps: that which each change of the master keeps.
 use Prim.Native.Nat.{ℕ, _≤_, _<_}
-use mathlib.Core.Path.{_≡_, subst}
+use mathlib.Core.Path.{_≡_, refl, ap, subst, _∙_}
 use native.Mathlib.Omega.{arith}
-use mathlib.Core.List.{List, [], _∷_}
+use mathlib.Core.List.{List, [], _∷_, _++_}
 use Rattle.client.specs.Clients.{slotCount}
 use Rattle.client.specs.declared.Client.{Client}
 use Rattle.sequence.specs.Sequence.{lastTick}
@@ -24,6 +24,23 @@ use Rattle.events.proofs.Rows.{row}
 -- what a call that is done does to the master
 pub done-change : (m : Master) (e : Event) → numberOf (callOf m e) ≡ 0 → Change m e (callOf m e .after)
 done-change m e z = row m e .change (passed _ _ _ _ _ z)
+
+pub run-more : (events : List Event) (e : Event) (m : Master) → runFrom m (events ++ e ∷ []) ≡ apply (runFrom m events) e .master
+run-more [] e m = refl
+run-more (x ∷ events) e m = run-more events e (apply m x .master)
+
+-- a call gives a master that calls give
+given-next : (m : Master) (e : Event) → Given m → Given (apply m e .master)
+given-next m e g = (g .0 ++ e ∷ [], run-more (g .0) e newMaster ∙ ap (λ (k : Master). apply k e .master) (g .1))
+
+-- what every call that is done keeps is so of every master that calls give
+module _ (P : Master → Type 0) (keeps : (m : Master) (e : Event) → Given m → numberOf (callOf m e) ≡ 0 → P m → P (callOf m e .after)) where
+  along : (events : List Event) (m : Master) → Given m → P m → P (runFrom m events)
+  along [] m g h = h
+  along (e ∷ events) m g h = along events (apply m e .master) (given-next m e g) (either-way m (callOf m e) P (λ _. h) (λ z. keeps m e g z h))
+
+  pub given-by : P newMaster → (m : Master) → Given m → P m
+  given-by h m g = subst P (g .1) (along (g .0) newMaster ([], refl) h)
 
 pub record Invariant (P : Master → Type 0) : Type 0 where
   pub state : (m : Master) (s : ℕ) → s ≤ states.abort → P m → P (withState m s)
@@ -63,10 +80,5 @@ module _ (P : Master → Type 0) (k : Invariant P) where
   changed m e n (playHears slot msg out p) h = k .answers m slot msg h
   changed m e n (playHearsLast slot msg out s p r l) h = k .over m s l h
 
-  along : (events : List Event) (m : Master) → P m → P (runFrom m events)
-  along [] m h = h
-  along (e ∷ events) m h =
-      along events (apply m e .master) (either-way m (callOf m e) P (λ _. h) (λ z. changed m e _ (done-change m e z) h))
-
   pub always : P newMaster → (m : Master) → Given m → P m
-  always h m g = subst P (g .1) (along (g .0) newMaster h)
+  always = given-by P (λ m e _ z h. changed m e _ (done-change m e z) h)

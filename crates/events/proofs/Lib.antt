@@ -1,10 +1,12 @@
 pub mod Choices
 pub mod Calls
+pub mod Outside
 pub mod Changes
 pub mod Rows
 pub mod Invariant
 pub mod Regular
 pub mod Examples
 pub mod Theorems
-pub mod Accepts
 pub mod Starts
+pub mod Playable
+pub mod Accepts

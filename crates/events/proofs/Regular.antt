@@ -118,6 +118,10 @@ answered-same p q slot r =
     S : Answered → Type 0
     S = SameCounts p
 
+pub answered-sent : (p : Playback) (q : Sequence) (slot : ℕ) (r : Reply) → answeredOf p q slot r .playback .sent ≡ p .sent
+unfolding SameCounts
+answered-sent p q slot r = answered-same p q slot r .2
+
 -- a tick that does not end the playback is below 36,000, has counted one more, and sends a step only where there is one
 record TickedFrom (p : Playback) (q : Sequence) (mm : ℕ) (t : Ticked) : Type 0 where
   below : more (p .ticks) 1 < lastTick
@@ -203,7 +207,7 @@ stay-regular = record {
       played-in m _ _ h (ticked-regular (m .playback) (m .sequence) (m .tan) mm (h .tan) l e (h .playback)) (f .sent (h .sent)) (f .tan);
   answers = λ m i msg h.
       played-in m (m .tan) _ h (answered-regular (m .playback) (m .sequence) i (replyIn msg) (h .playback))
-      (rw (answered-same (m .playback) (m .sequence) i (replyIn msg) .2) (h .sent)) (h .tan);
+      (rw (answered-sent (m .playback) (m .sequence) i (replyIn msg)) (h .sent)) (h .tan);
 }
 
 new-regular : Regular newMaster

@@ -28,7 +28,7 @@ use Rattle.master.specs.Tick.{tickCall}
 use Rattle.master.proofs.Calls.{Passed, below}
 use Rattle.events.specs.Events.{Event, on, off, «record», stop, cancel, start, abort, attach, enable, disable, report, lost, indication, clientAbort, tick, answer, callOf}
 use Rattle.events.specs.Demand1.{isAmong}
-use Rattle.events.specs.Causes.{operator, clientAborts}
+use Rattle.events.proofs.Outside.{operator, clientAborts}
 use Rattle.events.proofs.Choices.{chosen, chosen-by}
 use Rattle.events.proofs.Changes.{Rests, low, passes, Change, itself, moved, dropped, broken, recordStarts, playStarts, slot-change, stopped-change, lost-change, reported-change, heard-change, ticked-change, replied-change}
 
@@ -73,7 +73,7 @@ resting : (m : Master) (s : ℕ) → s ≤ state.ready → not (eqb (m .state) s
 resting m s l e = low (m .state) (omega (arith, eqb-true (m .state) s (not-false _ e)))
 
 -- an E.7 that matches is in playback
-plays : (m : Master) (number : ℕ) → unmatched (m .state) number ≡ 0 → isPlaying m ≡ true
+pub plays : (m : Master) (number : ℕ) → unmatched (m .state) number ≡ 0 → isPlaying m ≡ true
 unfolding unmatched pick
 plays m number e = go (isPlaying m) e
   where

@@ -9,7 +9,7 @@ use Rattle.recording.proofs.Steps.{both}
 use Rattle.master.specs.declared.Master.{Master}
 use Rattle.master.specs.Call.{Call, refusal, numberOf, outcomeOf}
 use Rattle.events.specs.Events.{Event, callOf, apply}
-use Rattle.events.specs.Demand1.{RefusedSame, isAmong, InTable, whileInactive, Inactive, Determined}
+use Rattle.events.specs.Demand1.{RefusedSame, isAmong, InTable, whileInactive, Inactive}
 use Rattle.events.specs.Order.{Ordered}
 use Rattle.events.proofs.Choices.{chosen-by}
 use Rattle.events.proofs.Calls.{same-master, same-lent}
@@ -50,11 +50,3 @@ barred c b =
 pub inactive : Inactive
 unfolding outcomeOf
 inactive m e s h = barred (callOf m e) (row m e .inactive s h)
-
--- ---- one outcome: every contract names it by a definition
-
-one-outcome : {A : Type 0} (definition r r′ : A) → r ≡ definition → r′ ≡ definition → r ≡ r′
-one-outcome definition r r′ e e′ = e ∙ sym e′
-
-pub determined : Determined
-determined m e r r′ a a′ = rw (one-outcome _ (r .0) (r′ .0) (a .0) (a′ .0), one-outcome _ (r .1) (r′ .1) (a .1) (a′ .1))

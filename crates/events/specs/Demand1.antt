@@ -7,13 +7,13 @@ use lib.Dec.{eqb}
 use lib.ListN.{length, getD}
 use Rattle.octets.specs.Numbers.{completed, tooShort, wrongState, wrongSlot, wrongValue, noMatch}
 use Rattle.arrays.specs.{Arrays.some, Arrays.more, Every.Every}
-use Rattle.client.specs.Clients.{slotCount, isTaken, blankSlot}
+use Rattle.client.specs.Clients.{slotCount, blankSlot}
 use Rattle.sequence.specs.Sequence.{mostSteps, lastTick, blankStep, lengthOf, stepsOf}
 use Rattle.recording.specs.Indication.{heldOf}
 use Rattle.playback.specs.{State.blankSent, Promises.EveryHolds, Promises.FirstFails}
 use Rattle.playback.specs.Verification.{isListed, isInPool, checksOf}
 use Rattle.message.specs.declared.Reply.{Reply}
-use Rattle.master.specs.{declared.Master.Master, declared.Outcome.Outcome, Call.slotAt, Messages.isAnswer, Messages.replyIn}
+use Rattle.master.specs.{declared.Master.Master, Messages.isAnswer, Messages.replyIn}
 use Rattle.master.specs.States as state
 use Rattle.events.specs.Events.{Event, on, start, tick, answer, callOf, apply, lent, lentAfter, Given}
 use Rattle.events.specs.Examples.{numberAfter, examplesOf}
@@ -55,7 +55,7 @@ pub record NeverRefused : Type 0 where
       → apply m (tick mm out) .number ≡ completed
   pub answers :
       (m : Master) (slot : ℕ) (msg out : List ℕ)
-      → Given m → m .state ≡ state.playback → 8 ≤ length out → isAnswer msg ≡ true → slot < slotCount → isTaken (slotAt m slot) ≡ true → MatchesSent m slot (replyIn msg)
+      → Given m → m .state ≡ state.playback → 8 ≤ length out → isAnswer msg ≡ true → MatchesSent m slot (replyIn msg)
       → apply m (answer slot msg out) .number ≡ completed
 
 -- ---- "While the master is inactive, every call on it but "on" gives 2, unless 1, 4 or 3 comes first."
@@ -66,15 +66,6 @@ whileInactive = tooShort ∷ wrongValue ∷ wrongSlot ∷ wrongState ∷ []
 abbrev pub Inactive : Type 0
 Inactive =
     (m : Master) (e : Event) → m .state ≡ state.inactive → (e ≡ on → ⊥) → isAmong (apply m e .number) whileInactive ≡ true
-
--- ---- "Prove any two outcomes it allows equal"
-
--- what a call's contract allows: its result, with the new state, and each lent byte after it
-abbrev pub Allowed : Master → Event → Outcome × List ℕ → Type 0
-Allowed m e r = (r .0 ≡ apply m e) × (r .1 ≡ lentAfter m e)
-
-abbrev pub Determined : Type 0
-Determined = (m : Master) (e : Event) (r r′ : Outcome × List ℕ) → Allowed m e r → Allowed m e r′ → r ≡ r′
 
 -- ---- "starts exactly when": "Start, from ready: 7; then for each slot of the sequence, lowest first, 8, 9 and 10 before the next slot; then by step 11;
 -- then by slot 12."

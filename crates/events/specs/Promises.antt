@@ -1,6 +1,6 @@
 -- All that is promised of the events together, so that none can be left out.
-use Rattle.events.specs.Demand1.{RefusedSame, InTable, NeverRefused, Inactive, Determined, StartExactly, NeverCut, NeverBites}
-use Rattle.events.specs.{Order.Ordered, Cases.Cases}
+use Rattle.events.specs.Demand1.{RefusedSame, InTable, NeverRefused, Inactive, StartExactly, NeverCut, NeverBites}
+use Rattle.events.specs.Order.{Ordered}
 
 pub record Promises : Type 0 where
   pub refused-same : RefusedSame
@@ -8,8 +8,6 @@ pub record Promises : Type 0 where
   pub ordered : Ordered
   pub never-refused : NeverRefused
   pub inactive : Inactive
-  pub determined : Determined
   pub start-exactly : StartExactly
   pub never-cut : NeverCut
   pub never-bites : NeverBites
-  pub cases : Cases

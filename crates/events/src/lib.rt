@@ -3,6 +3,4 @@ ghost use Rattle.events.specs.Promises.{Promises};
 
 pub fn promises()
     ensures { λ _. ⌜ Promises ⌝ }
-{
-    pool::cases()
-}
+{}

@@ -11,8 +11,7 @@ use Rattle.recording.specs.Indication.{status}
 use Rattle.recording.specs.Promises.{startOf}
 use Rattle.recording.specs.declared.Taken.{Taken}
 use Rattle.recording.proofs.Cases.{step}
-use Rattle.history.specs.Log.{Entry}
-use Rattle.history.specs.Steps.{isAccepted, FirstOf, beginnings, stepFrom, isFirst}
+use Rattle.history.specs.Steps.{Entry, isAccepted, FirstOf, beginnings, stepFrom, isFirst}
 use Rattle.history.proofs.Lists.{first-still}
 
 -- what a message that begins a step settles of it

@@ -1,34 +1,34 @@
 -- What is kept of a recording: each step that stays is traced, and the steps are those that the log gives.
-use Prim.Native.Nat.{ℕ}
+use Prim.Native.Nat.{ℕ, zero, suc, _+_, _<_}
 use mathlib.Core.Path.{_≡_, refl, sym, ap, subst, _∙_}
 use mathlib.Core.Bool.{Bool, true, false, cond}
 use mathlib.Core.List.{List, [], _∷_, _++_, map}
 use native.Mathlib.Omega.{arith}
 use lib.Dec.{eqb}
-use lib.ListN.{length, getD, drop, length-map}
-use borrow.Author.Tests.{ne-eqb, eqb-true, eqb-false}
+use lib.ListN.{length, getD, drop}
+use borrow.Author.Tests.{eq-eqb, eqb-true, eqb-false}
 use Rattle.octets.specs.Pick.{pick}
-use Rattle.octets.proofs.Tests.{pick-true, pick-false}
 use Rattle.message.specs.Fields.{statusNumber}
 use Rattle.message.specs.declared.Status.{Status}
-use Rattle.arrays.specs.Arrays.{some, those}
+use Rattle.arrays.specs.Arrays.{some, those, padTo}
 use Rattle.arrays.specs.Every.{Every}
-use Rattle.arrays.proofs.Every.{every-weaken, every-map, those-none, those-some}
-use Rattle.sequence.specs.Sequence.{stepsOf}
+use Rattle.arrays.proofs.Every.{every-weaken, every-map}
+use Rattle.client.specs.Records.{blankRecord}
+use Rattle.client.specs.declared.ClientRecord.{ClientRecord}
+use Rattle.sequence.specs.Sequence.{blankStep, stepsOf}
 use Rattle.sequence.specs.declared.Step.{Step}
 use Rattle.sequence.specs.declared.Sequence.{Sequence}
 use Rattle.recording.specs.Indication.{status, heldOf}
-use Rattle.recording.specs.Kept.{stays, stepIn, stayed, keptSequence}
+use Rattle.recording.specs.Kept.{stays, stepIn, stayed, isOf, recordKept, recordsFrom, sequenceOf, keptSequence}
 use Rattle.recording.specs.Promises.{Sound, startOf}
 use Rattle.recording.specs.declared.Taken.{Taken}
 use Rattle.recording.specs.declared.Recording.{Recording}
 use Rattle.recording.proofs.Keeps.{keeps}
 use Rattle.events.proofs.Choices.{either}
-use Rattle.history.specs.Log.{Entry}
-use Rattle.history.specs.Steps.{isAccepted, isFinish, FirstOf, beginnings, stepFrom, stepsBy, stepsOfAll, recordedBy, keptFrom}
+use Rattle.history.specs.Steps.{Entry, isAccepted, isFinish, FirstOf, beginnings, stepFrom, stepsBy, stepsOfAll, recordedBy, recordFor, keptFrom}
 use Rattle.history.specs.Promises.{Traced}
-use Rattle.history.proofs.Lists.{every-chosen}
-use Rattle.history.proofs.Held.{Held, traced}
+use Rattle.history.proofs.Lists.{all-true, every-chosen}
+use Rattle.history.proofs.Held.{Held, found-first, traced}
 use Rattle.history.proofs.Beginnings.{startIn, First}
 use Rattle.history.proofs.Told.{Told}
 
@@ -48,14 +48,11 @@ same-first p log x y a b = ap (λ (l : List Entry). getD l 0 x) (sym (a .1) ∙ 
 
 -- a step and the message that began it
 module _ (log : List Entry) (t : Taken) (k : Held log t) (b : Entry) (first : First log b) (start : startOf t ≡ startIn b) where
-  is-its : k .began ≡ b
+  pub is-its : k .began ≡ b
   is-its =
-      let u : k .began .slot ≡ b .slot = sym (k .start .slot) ∙ ap (λ (y : Taken). y .step .slot) start in
-      let v : k .began .message .tan ≡ b .message .tan = sym (k .tan) ∙ ap (λ (y : Taken). y .tan) start in
-      same-first (isAccepted (b .slot) (b .message .tan)) log (k .began) b
-      (subst (λ (n : ℕ). FirstOf (isAccepted (b .slot) n) log (k .began)) v
-      (subst (λ (n : ℕ). FirstOf (isAccepted n (k .began .message .tan)) log (k .began)) u (k .first)))
-      first
+      let u = eq-eqb (t .step .slot) (b .slot) (ap (λ (y : Taken). y .step .slot) start) in
+      let v = eq-eqb (t .tan) (b .message .tan) (ap (λ (y : Taken). y .tan) start) in
+      same-first (isAccepted (b .slot) (b .message .tan)) log (k .began) b (found-first log t k (b .slot) (b .message .tan) (all-true _ _ u v)) first
 
   is-step : (value : ℕ) → t .step .value ≡ value → t .step ≡ stepFrom b value
   is-step value e =
@@ -116,19 +113,48 @@ exact-all log (t ∷ ts) (b ∷ bs) h f e =
     let others = exact-all log ts bs (h .1) (f .1) (ap (drop 1) e) in
     stayed-more t ts ∙ ap (λ (l : List Step). l ++ stayed ts) one ∙ ap (λ (l : List Step). stepsBy log b ++ l) others
 
-pub kept-exact :
-    (log : List Entry) (r : Recording) (old : Sequence) → Sound r → Told r log → stepsOf (keptSequence r old) ≡ keptFrom log (stepsOf old)
-kept-exact log r old s h =
-    either (some stays (heldOf r))
-    (λ n.
-    let a = those-some stays (heldOf r) n in
-    let b = length-map (those stays (heldOf r)) stepIn in
-    let c = ap length all in
-    keeps r old s .steps n ∙ all ∙ sym (pick-false (eqb (length (recordedBy log)) 0) (stepsOf old) (recordedBy log) (ne-eqb (length (recordedBy log)) 0 (λ z. omega arith))))
-    (λ n.
-    let c : recordedBy log ≡ [] = sym all ∙ ap (map stepIn) (those-none stays (heldOf r) n) in
-    ap stepsOf (keeps r old s .none n)
-    ∙ sym (pick-true (eqb (length (recordedBy log)) 0) (stepsOf old) (recordedBy log) (ap (λ (l : List Step). eqb (length l) 0) c)))
-  where
-    all : stayed (heldOf r) ≡ recordedBy log
-    all = exact-all log (heldOf r) (beginnings [] log) (h .steps) (h .firsts) (h .order)
+-- ---- the records
+
+numbers : ℕ → ℕ → List ℕ
+numbers k zero = []
+numbers k (suc n) = k ∷ numbers (suc k) n
+
+records-are :
+    (l : List Step) (f : ℕ → ClientRecord) (k : ℕ) (records : List ClientRecord)
+    → ((i : ℕ) → i < length records → recordKept l (k + i) (getD records i blankRecord) ≡ f (k + i))
+    → recordsFrom l k records ≡ map f (numbers k (length records))
+unfolding numbers
+records-are l f k [] h = refl
+records-are l f k (c ∷ records) h =
+    let z : k + 0 ≡ k = omega arith in
+    let one : recordKept l k c ≡ f k = subst (λ (n : ℕ). recordKept l n c ≡ f n) z (h 0 (omega arith)) in
+    let others =
+    records-are l f (suc k) records
+    (λ i b. let y : k + suc i ≡ suc k + i = omega arith in subst (λ (n : ℕ). recordKept l n (getD records i blankRecord) ≡ f n) y (h (suc i) (omega arith))) in
+    ap (λ (x : ClientRecord). x ∷ recordsFrom l (suc k) records) one ∙ ap (λ (rs : List ClientRecord). f k ∷ rs) others
+
+-- ---- the sequence
+
+module _ (log : List Entry) (r : Recording) (old : Sequence) (s : Sound r) (h : Told r log) where
+  all-steps : stayed (heldOf r) ≡ recordedBy log
+  all-steps = exact-all log (heldOf r) (beginnings [] log) (h .steps) (h .firsts) (h .order)
+
+  all-records : recordsFrom (recordedBy log) 0 (r .records) ≡ map (recordFor log) (0 ∷ 1 ∷ 2 ∷ 3 ∷ 4 ∷ 5 ∷ 6 ∷ 7 ∷ [])
+  unfolding numbers recordKept
+  all-records =
+      records-are (recordedBy log) (recordFor log) 0 (r .records)
+      (λ i b.
+      let z : i ≡ 0 + i = omega arith in
+      subst (λ (n : ℕ). recordKept (recordedBy log) n (getD (r .records) i blankRecord) ≡ recordFor log n) z
+      (ap (λ (c : ClientRecord). pick (some (isOf i) (recordedBy log)) c blankRecord) (h .records i (subst (λ (n : ℕ). i < n) (s .slots) b))))
+      ∙ ap (λ (n : ℕ). map (recordFor log) (numbers 0 n)) (s .slots)
+
+  pub kept-exact : keptSequence r old ≡ keptFrom log old
+  unfolding keptSequence
+  kept-exact =
+      ap (λ (l : List Step). pick (eqb (length l) 0) old (sequenceOf l (r .records))) all-steps
+      ∙ ap (λ (records : List ClientRecord). pick (eqb (length (recordedBy log)) 0) old (record {
+        count = length (recordedBy log);
+        steps = padTo blankStep 64 (recordedBy log);
+        records = records;
+      })) all-records

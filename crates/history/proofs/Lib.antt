@@ -1,7 +1,14 @@
+pub mod Gather
+pub mod States
+pub mod Ticks
+pub mod Slots
 pub mod Lists
 pub mod Held
 pub mod Beginnings
 pub mod Told
 pub mod Kept
+pub mod Answers
 pub mod Next
 pub mod Runs
+pub mod Responses
+pub mod Opens

@@ -15,8 +15,7 @@ use Rattle.recording.specs.Indication.{isStepOf}
 use Rattle.recording.specs.declared.Taken.{Taken}
 use Rattle.recording.proofs.Steps.{both}
 use Rattle.events.proofs.Choices.{is-false}
-use Rattle.history.specs.Log.{Entry}
-use Rattle.history.specs.Steps.{FirstOf}
+use Rattle.history.specs.Steps.{Entry, FirstOf}
 
 -- ---- choices
 
@@ -36,15 +35,16 @@ right-false false b p = refl
 
 -- ---- what is first
 
-pub none-both : (p q : Entry → Bool) (l : List Entry) → those p l ≡ [] → those (λ x. p x && q x) l ≡ []
-none-both p q [] e = refl
-none-both p q (x ∷ l) e = go (p x) e (none-both p q l)
+pub none-weaker : (p q : Entry → Bool) → ((x : Entry) → q x ≡ true → p x ≡ true) → (l : List Entry) → those p l ≡ [] → those q l ≡ []
+none-weaker p q f [] e = refl
+none-weaker p q f (x ∷ l) e = go (p x) (q x) refl refl e (none-weaker p q f l)
   where
     go :
-        (b : Bool) → cond b (x ∷ those p l) (those p l) ≡ [] → (those p l ≡ [] → those (λ y. p y && q y) l ≡ [])
-        → cond (b && q x) (x ∷ those (λ y. p y && q y) l) (those (λ y. p y && q y) l) ≡ []
-    go true z k = let w = ap length z in absurd (omega arith)
-    go false z k = k z
+        (a b : Bool) → p x ≡ a → q x ≡ b → cond a (x ∷ those p l) (those p l) ≡ [] → (those p l ≡ [] → those q l ≡ [])
+        → cond b (x ∷ those q l) (those q l) ≡ []
+    go true b u v z k = let w = ap length z in absurd (omega arith)
+    go false true u v z k = absurd (true≢false (sym (f x v) ∙ u))
+    go false false u v z k = k z
 
 module _ (p : Entry → Bool) (log : List Entry) (x : Entry) where
   pub still-none : those p log ≡ [] → p x ≡ false → those p (log ++ x ∷ []) ≡ []

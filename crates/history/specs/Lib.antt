@@ -1,3 +1,7 @@
-pub mod Log
+pub mod Runs
+pub mod Ticks
+pub mod Seats
 pub mod Steps
+pub mod Answers
+pub mod Log
 pub mod Promises

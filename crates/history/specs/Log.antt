@@ -4,54 +4,52 @@ use Prim.Native.Nat.{ℕ}
 use mathlib.Core.Bool.{Bool, _&&_}
 use mathlib.Core.List.{List, [], _∷_, _++_}
 use lib.Dec.{eqb}
-use Rattle.octets.specs.{Pick.pick, Numbers.completed}
+use lib.ListN.{length}
+use Rattle.octets.specs.Pick.{pick}
 use Rattle.profile.specs.Profile as profile
-use Rattle.message.specs.declared.Execution.{Execution}
-use Rattle.master.specs.{declared.Master.Master, Call.slotAt, Messages.executionIn, States.newMaster, States.isRecording, Recording.heard}
-use Rattle.events.specs.Events.{Event, indication, Sort, stops, hears, ticks, answers, other, sortOf, apply}
+use Rattle.master.specs.{declared.Master.Master, Messages.executionIn, States.isRecording}
+use Rattle.master.specs.States as state
+use Rattle.events.specs.Events.{Event, indication, Sort, stops, hears, ticks, answers, other, sortOf, apply, run}
+use Rattle.history.specs.Runs.{gather, isDone}
+use Rattle.history.specs.Ticks.{ticksSince, sum}
+use Rattle.history.specs.Seats.{poolIn, clientIn}
+use Rattle.history.specs.Steps.{Entry}
+use Rattle.history.specs.Answers.{errorFrom}
 
--- an E.4 that counts: the slot that sent it, what is read of it, the error of its E.5, the ticks and millimetres counted then, and the preferred trigger
--- of its function in the pool then loaded
-pub record Entry : Type 0 where
-  pub slot : ℕ
-  pub message : Execution
-  pub error : ℕ
-  pub ticks : ℕ
-  pub distance : ℕ
-  pub trigger : ℕ
+abbrev pub isComplete : Master → Bool
+isComplete m = eqb (m .state) state.recordComplete
 
-abbrev pub entryOf : Master → ℕ → List ℕ → Entry
-entryOf m slot msg = record {
+-- what an E.4 that comes after these calls is, by them and by the log so far
+abbrev pub entryOf : List Event → List Entry → ℕ → List ℕ → Entry
+entryOf before log slot msg = record {
   slot = slot;
   message = executionIn msg;
-  error = heard m slot (slotAt m slot) (executionIn msg) .error;
-  ticks = m .recording .ticks;
-  distance = m .recording .distance;
-  trigger = profile.trigger (slotAt m slot .profile) (executionIn msg .function);
+  error = errorFrom log (poolIn before slot) (isComplete (run before)) slot (executionIn msg);
+  ticks = length (ticksSince before);
+  distance = sum (ticksSince before);
+  trigger = profile.trigger (poolIn before slot) (executionIn msg .function);
+  client = clientIn before slot;
 }
 
--- the call is not refused, in record or record complete
-abbrev pub isEntered : Master → Event → Bool
-isEntered m e = isRecording m && eqb (apply m e .number) completed
-
--- what a call brings: an E.4 that counts, its entry; any other call, none
-abbrev pub entriesBy : Master → (e : Event) → Sort e → List Entry
-entriesBy m e stops = []
-entriesBy m e (hears slot msg out) = pick (isEntered m (indication slot msg out)) (entryOf m slot msg ∷ []) []
-entriesBy m e (ticks mm out) = []
-entriesBy m e (answers slot msg out) = []
-entriesBy m e (other n) = []
-
-abbrev pub entriesIn : Master → Event → List Entry
-entriesIn m e = entriesBy m e (sortOf e)
+-- what a call brings: an E.4 that is not refused, in record or record complete, its entry; any other call, none
+abbrev pub entriesBy : List Event → List Entry → (e : Event) → Sort e → List Entry
+entriesBy before log e stops = []
+entriesBy before log e (hears slot msg out) =
+    pick (isRecording (run before) && isDone before (indication slot msg out)) (entryOf before log slot msg ∷ []) []
+entriesBy before log e (ticks mm out) = []
+entriesBy before log e (answers slot msg out) = []
+entriesBy before log e (other n) = []
 
 -- the log after a call: none where no recording is on
-abbrev pub logAfter : Master → Event → List Entry → List Entry
-logAfter m e log = pick (isRecording (apply m e .master)) (log ++ entriesIn m e) []
-
-abbrev pub logFrom : Master → List Entry → List Event → List Entry
-logFrom m log [] = log
-logFrom m log (e ∷ events) = logFrom (apply m e .master) (logAfter m e log) events
+abbrev pub logAfter : List Event → Event → List Entry → List Entry
+logAfter before e log = pick (isRecording (apply (run before) e .master)) (log ++ entriesBy before log e (sortOf e)) []
 
 abbrev pub logOf : List Event → List Entry
-logOf events = logFrom newMaster [] events
+logOf events = gather logAfter [] events
+
+-- what a call after these brings, and the log with it, whether or not the call ends the recording
+abbrev pub entriesIn : List Event → Event → List Entry
+entriesIn before e = entriesBy before (logOf before) e (sortOf e)
+
+abbrev pub logWith : List Event → Event → List Entry
+logWith before e = logOf before ++ entriesIn before e

@@ -1,24 +1,86 @@
--- "every step of a kept sequence has slot, function, state, trigger kind and mark of the indication that began it and the 32-bit value of the indication
--- that finished it": over every run of calls, from the master as it is made.
-use Prim.Native.Nat.{ℕ}
+-- Recording over every run of calls, from the master as it is made: calls in, numbers, bytes, states and the sequence out.
+use Prim.Native.Nat.{ℕ, _<_}
 use mathlib.Core.Path.{_≡_}
-use mathlib.Core.Bool.{Bool, true, false, _&&_}
+use mathlib.Core.Bool.{Bool, true, false, not, _&&_}
 use mathlib.Core.Logic.{_⊎_}
 use mathlib.Core.List.{List, [], _∷_, _++_}
 use lib.Dec.{eqb}
-use Rattle.octets.specs.Numbers.{completed}
+use lib.ListN.{length, getD}
+use Rattle.octets.specs.Pick.{pick}
 use Rattle.arrays.specs.Every.{Every}
+use Rattle.client.specs.Clients.{isTaken, isWanted}
 use Rattle.message.specs.declared.Status.the-variants.{AtOnce, Started, Done}
 use Rattle.sequence.specs.{Sequence.stepsOf, declared.Step.Step}
+use Rattle.recording.specs.Indication.{hasOpen}
 use Rattle.recording.specs.Promises.{Sound, SoundSequence}
 use Rattle.playback.specs.Promises.{Tidy}
-use Rattle.master.specs.{declared.Master.Master, States.isRecording}
+use Rattle.master.specs.{declared.Master.Master, Call.slotAt, Messages.executionIn, States.isRecording}
 use Rattle.master.specs.States as state
-use Rattle.events.specs.Events.{Event, indication, Sort, stops, hears, ticks, answers, other, sortOf, apply, run, Given}
-use Rattle.history.specs.Log.{Entry, entryOf, entriesIn, logOf}
-use Rattle.history.specs.Steps.{isAccepted, isFinish, FirstOf, Begins, keptFrom}
+use Rattle.events.specs.Events.{Event, stop, indication, tick, Sort, stops, hears, ticks, answers, other, sortOf, lentAfter, run, Given}
+use Rattle.history.specs.Runs.{Succeeds}
+use Rattle.history.specs.Ticks.{ticksSince, sum}
+use Rattle.history.specs.Seats.{seatOf, poolIn}
+use Rattle.history.specs.Steps.{Entry, isAccepted, isFinish, FirstOf, Begins, isAnyOpen, keptFrom}
+use Rattle.history.specs.Answers.{errorFrom}
+use Rattle.history.specs.Log.{isComplete, entryOf, logOf, entriesIn, logWith}
 
--- ---- from the run
+-- ---- ticks
+
+pub record Counting : Type 0 where
+  -- what is counted is the ticks since `record`, and their millimetres
+  pub ticks : (events : List Event) → isRecording (run events) ≡ true → run events .recording .ticks ≡ length (ticksSince events)
+  pub distance : (events : List Event) → isRecording (run events) ≡ true → run events .recording .distance ≡ sum (ticksSince events)
+  -- "in both, .. tick 36,000 goes to ready and keeps the old sequence"
+  pub below : (events : List Event) → isRecording (run events) ≡ true → length (ticksSince events) < 36000
+  pub last :
+      (before : List Event) (mm : ℕ) (out : List ℕ) → isRecording (run before) ≡ true → Succeeds before (tick mm out)
+      → length (ticksSince (before ++ tick mm out ∷ [])) ≡ 36000
+      → (run (before ++ tick mm out ∷ []) .state ≡ state.ready) × (run (before ++ tick mm out ∷ []) .sequence ≡ run before .sequence)
+  -- and no earlier one does
+  pub earlier :
+      (before : List Event) (mm : ℕ) (out : List ℕ) → isRecording (run before) ≡ true → Succeeds before (tick mm out)
+      → (length (ticksSince (before ++ tick mm out ∷ [])) ≡ 36000 → ⊥)
+      → run (before ++ tick mm out ∷ []) .state ≡ run before .state
+
+-- ---- what a slot holds
+
+pub record Attaching : Type 0 where
+  -- whether it is taken, whether its client is wanted, and what it reported last
+  pub taken : (events : List Event) (slot : ℕ) → isTaken (slotAt (run events) slot) ≡ seatOf events slot .taken
+  pub wanted : (events : List Event) (slot : ℕ) → isWanted (slotAt (run events) slot) ≡ seatOf events slot .wanted
+  pub report : (events : List Event) (slot : ℕ) → slotAt (run events) slot .report ≡ seatOf events slot .report
+  -- where it is taken, the NAME of the last attach, and what is kept of its pool
+  pub name : (events : List Event) (slot : ℕ) → isTaken (slotAt (run events) slot) ≡ true → slotAt (run events) slot .name ≡ seatOf events slot .name
+  pub pool : (events : List Event) (slot : ℕ) → isTaken (slotAt (run events) slot) ≡ true → slotAt (run events) slot .profile ≡ poolIn events slot
+
+-- ---- the answer to an E.4
+
+-- E.5: byte 4 is the error
+abbrev pub Answering : Type 0
+Answering =
+    (before : List Event) (slot : ℕ) (msg out : List ℕ) → isRecording (run before) ≡ true → Succeeds before (indication slot msg out)
+    → getD (lentAfter (run before) (indication slot msg out)) 3 0
+    ≡ errorFrom (logOf before) (poolIn before slot) (isComplete (run before)) slot (executionIn msg)
+
+-- ---- open steps
+
+pub record Opening : Type 0 where
+  -- a step is open where the log says so
+  pub has-open : (events : List Event) → isRecording (run events) ≡ true → hasOpen (run events .recording) ≡ isAnyOpen (logOf events)
+  -- "Record: stop goes to record complete if a step is open, else ready"
+  pub at-stop :
+      (before : List Event) → run before .state ≡ state.recording
+      → run (before ++ stop ∷ []) .state ≡ pick (isAnyOpen (logOf before)) state.recordComplete state.ready
+  -- "record complete goes to ready when none is open": an E.4 changes the state by that alone
+  pub at-indication :
+      (before : List Event) (slot : ℕ) (msg out : List ℕ) → isRecording (run before) ≡ true → Succeeds before (indication slot msg out)
+      → run (before ++ indication slot msg out ∷ []) .state
+      ≡ pick (isComplete (run before) && not (isAnyOpen (logWith before (indication slot msg out)))) state.ready (run before .state)
+  -- so a step is open all the while
+  pub waits : (events : List Event) → run events .state ≡ state.recordComplete → isAnyOpen (logOf events) ≡ true
+
+-- ---- where the steps come from: "every step of a kept sequence has slot, function, state, trigger kind and mark of the indication that began it and the
+-- 32-bit value of the indication that finished it"
 
 -- an entry is of a call of the run: an E.4 that was not refused, in record or record complete
 pub record Happened (events : List Event) (x : Entry) : Type 0 where
@@ -29,8 +91,8 @@ pub record Happened (events : List Event) (x : Entry) : Type 0 where
   pub after : List Event
   pub all : events ≡ before ++ indication slot msg out ∷ after
   pub recording : isRecording (run before) ≡ true
-  pub accepted : apply (run before) (indication slot msg out) .number ≡ completed
-  pub entry : x ≡ entryOf (run before) slot msg
+  pub accepted : Succeeds before (indication slot msg out)
+  pub entry : x ≡ entryOf before (logOf before) slot msg
 
 pub record Recorded (events : List Event) (s : Step) : Type 0 where
   -- "the indication that began it", answered 00
@@ -87,18 +149,22 @@ pub record KeptBy (events : List Event) : Type 0 where
   pub keeps : doesKeep last ≡ true
   pub ended : run (before ++ last ∷ []) .state ≡ state.ready
   pub sequence : run events .sequence ≡ run (before ++ last ∷ []) .sequence
-  pub steps : Every (Traced (logOf before ++ entriesIn (run before) last)) (stepsOf (run events .sequence))
+  pub steps : Every (Traced (logWith before last)) (stepsOf (run events .sequence))
 
 -- ---- all of it
 
 pub record Promises : Type 0 where
+  pub counted : Counting
+  pub attached : Attaching
+  pub answered : Answering
+  pub opened : Opening
   pub recorded : (events : List Event) → Every (Recorded events) (stepsOf (run events .sequence))
   -- the same in the words of the log, which say which of the indications those two are: a sequence has no step, or each is traced to one recording
   pub kept : (events : List Event) → (stepsOf (run events .sequence) ≡ []) ⊎ KeptBy events
-  -- where a recording ends and is kept, the steps are those that its log gives, each once and in their order, and no other
+  -- where a recording ends and is kept, the sequence is what its log gives: each step once and in their order, the clients that have one, and no other
   pub exact :
       (before : List Event) (last : Event) → isRecording (run before) ≡ true → doesKeep last ≡ true → run (before ++ last ∷ []) .state ≡ state.ready
-      → stepsOf (run (before ++ last ∷ []) .sequence) ≡ keptFrom (logOf before ++ entriesIn (run before) last) (stepsOf (run before .sequence))
+      → run (before ++ last ∷ []) .sequence ≡ keptFrom (logWith before last) (run before .sequence)
   -- and no other call changes the sequence
   pub others :
       (before : List Event) (last : Event)
@@ -106,7 +172,7 @@ pub record Promises : Type 0 where
       → run (before ++ last ∷ []) .sequence ≡ run before .sequence
   -- the log is of the run
   pub happened : (events : List Event) → Every (Happened events) (logOf events)
-  pub happened-last : (before : List Event) (e : Event) → Every (Happened (before ++ e ∷ [])) (entriesIn (run before) e)
+  pub happened-last : (before : List Event) (e : Event) → Every (Happened (before ++ e ∷ [])) (entriesIn before e)
   -- what crates recording and playback say of a sound recording, a sound sequence and a tidy playback holds of every master that calls give
   pub sound : (m : Master) → Given m → Sound (m .recording)
   pub sound-sequence : (m : Master) → Given m → SoundSequence (m .sequence)

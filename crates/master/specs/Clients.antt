@@ -67,7 +67,7 @@ wantCall wanted m slot out = record {
   written = writtenOver (StateCommand wanted 0x01) blank [] out;
 }
 
--- "4: .. a report of no known state": F.3 numbers them 0 disabled, 1 ready, 2 record, 4 playback, 5 abort
+-- "4: .. a report of no known state": they are numbered 0 disabled, 1 ready, 2 record, 4 playback, 5 abort
 abbrev pub isReport : ℕ → Bool
 isReport report =
     eqb report disabledReport || eqb report readyReport || eqb report recordReport || eqb report playbackReport || eqb report abortReport

@@ -12,7 +12,7 @@ use Rattle.recording.specs.{State.blankRecording, declared.Recording.Recording}
 use Rattle.playback.specs.{State.blankPlayback, declared.Playback.Playback}
 use Rattle.master.specs.declared.Master.{Master}
 
--- a state, as F.2 numbers them; a number above 5, which no call gives, counts as abort
+-- a state; the numbering is the library's own; a number above 5, which no call gives, counts as abort
 abbrev pub inactive : ℕ
 inactive = 0
 

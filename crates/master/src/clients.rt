@@ -120,7 +120,7 @@ impl Master {
         self.gives(DONE)
     }
 
-    // The state that a client reports, as F.3 numbers them.
+    // The state that a client reports, decoded by the host.
     pub fn report(mut self, slot: usize, report: u32) -> Outcome
         ensures { λ r. ⌜ r ≡ outcomeOf self (reportCall self slot report) ⌝ }
     {

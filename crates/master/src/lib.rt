@@ -24,7 +24,7 @@ pub mod readers;
 pub mod records;
 pub mod ticks;
 
-// A state, as F.2 numbers them. A number that is not here counts as abort.
+// A state; the numbering is the library's own. A number that is not here counts as abort.
 pub const INACTIVE: u8 = 0;
 
 pub const READY: u8 = 1;

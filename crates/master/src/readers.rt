@@ -36,7 +36,7 @@ pub struct ClientView {
 }
 
 impl Master {
-    // The state, as F.2 numbers them.
+    // The state, by its number.
     pub fn state(self) -> u8
         ensures { λ r. ⌜ r ≡ stateOf self ⌝ }
     {

@@ -23,7 +23,7 @@ use Rattle.replay.specs.Run.{State, going, done, aborted, afterTick, afterAnswe
 use Rattle.replay.specs.Run as replay
 use Rattle.events.specs.Events.{Event, tick, answer, Sort, stops, hears, ticks, answers, sortOf, numberBy, whichCall, callOf, apply}
 use Rattle.events.specs.Events as events
-use Rattle.events.specs.Causes.{Cause}
+use Rattle.events.proofs.Outside.{Outside}
 use Rattle.events.proofs.Calls.{either-way}
 use Rattle.events.proofs.Changes.{Near, itself, slotted, Change, rested, moved, dropped, broken, recordStarts, recordWaits, recordEnds, recordHears, recordHearsLast, recordTicks, playStarts, playTicks, playTicksLast, playHears, playHearsLast, not-recording}
 use Rattle.events.proofs.Invariant.{done-change}
@@ -32,9 +32,12 @@ use Rattle.playback.specs.State.{goesOn, toReady, toAbort}
 
 -- ---- every call but a tick and an answer
 
+abbrev pub Aside : Event → Type 0
+Aside e = (whichCall e ≡ 2 → ⊥) × (whichCall e ≡ 3 → ⊥)
+
 pub data Stays (m : Master) (e : Event) (n : Master) : Type 0 where
   keeps : n .state ≡ states.playback → n .sequence ≡ m .sequence → n .playback ≡ m .playback → n .tan ≡ m .tan → Stays m e n
-  aborts : Cause m e → n .state ≡ states.abort → Stays m e n
+  aborts : Outside m e → n .state ≡ states.abort → Stays m e n
 
 -- no recording is on, and no other state
 module _ (m : Master) (h : Playing m) where
@@ -48,28 +51,27 @@ module _ (m : Master) (h : Playing m) where
   near e n itself = keeps h refl refl refl
   near e n (slotted i s) = keeps h refl refl refl
 
-  -- neither a tick nor an answer
-  changed : (e : Event) (n : Master) → (whichCall e ≡ 2 → ⊥) → (whichCall e ≡ 3 → ⊥) → Change m e n → Stays m e n
+  changed : (e : Event) (n : Master) → Aside e → Change m e n → Stays m e n
   unfolding ended
-  changed e n a b (rested x y) = near e n x
-  changed e n a b (moved x s r t) = absurd (r .2 h)
-  changed e n a b (dropped x i y) = absurd (not-recorded i)
-  changed e n a b (broken x p c) = aborts c refl
-  changed e n a b (recordStarts r) = absurd (r .2 h)
-  changed e n a b (recordWaits i) = absurd (not-recorded i)
-  changed e n a b (recordEnds i) = absurd (not-recorded i)
-  changed e n a b (recordHears slot msg out i l) = absurd (not-recorded i)
-  changed e n a b (recordHearsLast slot msg out i l) = absurd (not-recorded i)
-  changed e n a b (recordTicks mm out i l t) = absurd (not-recorded i)
-  changed e n a b (playStarts r) = absurd (r .2 h)
-  changed e n a b (playTicks mm out p l t) = absurd (a refl)
-  changed e n a b (playTicksLast mm out p) = absurd (a refl)
-  changed e n a b (playHears slot msg out p) = absurd (b refl)
-  changed e n a b (playHearsLast slot msg out s p r l) = absurd (b refl)
+  changed e n a (rested x y) = near e n x
+  changed e n a (moved x s r t) = absurd (r .2 h)
+  changed e n a (dropped x i y) = absurd (not-recorded i)
+  changed e n a (broken x p c) = aborts c refl
+  changed e n a (recordStarts r) = absurd (r .2 h)
+  changed e n a (recordWaits i) = absurd (not-recorded i)
+  changed e n a (recordEnds i) = absurd (not-recorded i)
+  changed e n a (recordHears slot msg out i l) = absurd (not-recorded i)
+  changed e n a (recordHearsLast slot msg out i l) = absurd (not-recorded i)
+  changed e n a (recordTicks mm out i l t) = absurd (not-recorded i)
+  changed e n a (playStarts r) = absurd (r .2 h)
+  changed e n a (playTicks mm out p l t) = absurd (a .0 refl)
+  changed e n a (playTicksLast mm out p) = absurd (a .0 refl)
+  changed e n a (playHears slot msg out p) = absurd (a .1 refl)
+  changed e n a (playHearsLast slot msg out s p r l) = absurd (a .1 refl)
 
   -- refused, or done
-  stays : (e : Event) → (whichCall e ≡ 2 → ⊥) → (whichCall e ≡ 3 → ⊥) → Stays m e (apply m e .master)
-  stays e a b = either-way m (callOf m e) (Stays m e) (λ _. near e m itself) (λ z. changed e (callOf m e .after) a b (done-change m e z))
+  pub stays : (e : Event) → Aside e → Stays m e (apply m e .master)
+  stays e a = either-way m (callOf m e) (Stays m e) (λ _. near e m itself) (λ z. changed e (callOf m e .after) a (done-change m e z))
 
 -- ---- the calls as crate `replay` has them
 
@@ -168,12 +170,12 @@ by-answer m slot msg out h = done-or-not m (answerCall m slot msg out) (replay.a
 pub data View (m : Master) : Event → Type 0 where
   aTick : (mm : ℕ) (out : List ℕ) → View m (tick mm out)
   anAnswer : (slot : ℕ) (msg out : List ℕ) → View m (answer slot msg out)
-  another : {e : Event} → (Playing m → Stays m e (apply m e .master)) → seen m e ≡ heeded (apply m e .master .state) → tickIn m e ≡ [] → View m e
+  another : {e : Event} → Aside e → seen m e ≡ heeded (apply m e .master .state) → tickIn m e ≡ [] → View m e
 
 aside : (m : Master) (e : Event) (s : Sort e) → sortOf e ≡ s → (numberBy s ≡ 2 → ⊥) → (numberBy s ≡ 3 → ⊥)
     → seenBy m e s ≡ heeded (apply m e .master .state) → tickBy m e s ≡ [] → View m e
 aside m e s q a b x y =
-    another (λ h. stays m h e (λ z. a (ap numberBy (sym q) ∙ z)) (λ z. b (ap numberBy (sym q) ∙ z))) (ap (seenBy m e) q ∙ x) (ap (tickBy m e) q ∙ y)
+    another (λ z. a (ap numberBy (sym q) ∙ z), λ z. b (ap numberBy (sym q) ∙ z)) (ap (seenBy m e) q ∙ x) (ap (tickBy m e) q ∙ y)
 
 view-by : (m : Master) (e : Event) (s : Sort e) → sortOf e ≡ s → View m e
 view-by m e stops q = aside m e stops q (λ z. omega arith) (λ z. omega arith) refl refl
@@ -188,8 +190,8 @@ view m e = view-by m e (sortOf e) refl
 viewed : (m : Master) (e : Event) → Playing m → View m e → Shows (m .sequence) (apply m e .master) (stepOf (m .sequence) (going (m .playback) (m .tan)) (seen m e))
 viewed m e h (aTick mm out) = by-tick m mm out h
 viewed m e h (anAnswer slot msg out) = by-answer m slot msg out h
-viewed m e h (another s q t) =
-    subst (λ (x : replay.PlaybackEvent). Shows (m .sequence) (apply m e .master) (stepOf (m .sequence) (going (m .playback) (m .tan)) x)) (sym q) (other m e _ (s h))
+viewed m e h (another a q t) =
+    subst (λ (x : replay.PlaybackEvent). Shows (m .sequence) (apply m e .master) (stepOf (m .sequence) (going (m .playback) (m .tan)) x)) (sym q) (other m e _ (stays m h e a))
 
 -- EACH CALL DOES TO A PLAYBACK THAT LASTS WHAT CRATE `replay` SAYS OF THE EVENT THAT IT IS
 pub one : (m : Master) (e : Event) → Playing m → Shows (m .sequence) (apply m e .master) (stepOf (m .sequence) (going (m .playback) (m .tan)) (seen m e))

@@ -1,7 +1,11 @@
 pub mod Calls
 pub mod Runs
-pub mod Causes
+pub mod Bytes
+pub mod Commands
 pub mod Theorems
 pub mod Replies
-pub mod Ends
-pub mod Frames
+pub mod Waiting
+pub mod Written
+pub mod LastAnswers
+pub mod Causes
+pub mod Endings

@@ -44,7 +44,7 @@ fair-one m e es f (aTick mm out) =
     chosen-by (λ x. Fair (x ∷ es)) (eqb (apply m (tick mm out) .number) 0) (replay.tick mm) replay.message (λ q. (accepted-mm m mm out q, f)) (λ _. f)
 fair-one m e es f (anAnswer slot msg out) =
     chosen (λ x. Fair (x ∷ es)) (eqb (apply m (answer slot msg out) .number) 0) (replay.answer slot (replyIn msg)) replay.message f f
-fair-one m e es f (another s q t) =
+fair-one m e es f (another a q t) =
     subst (λ (x : replay.PlaybackEvent). Fair (x ∷ es)) (sym q)
     (chosen (λ x. Fair (x ∷ es)) (eqb (apply m e .master .state) states.playback) replay.message replay.ends f f)
 
@@ -56,7 +56,7 @@ ticks-one : (m : Master) (e : Event) (es : List replay.PlaybackEvent) → View m
 unfolding pick
 ticks-one m e es (aTick mm out) = either (eqb (apply m (tick mm out) .number) 0) (λ b. rw b) (λ b. rw b)
 ticks-one m e es (anAnswer slot msg out) = either (eqb (apply m (answer slot msg out) .number) 0) (λ b. rw b) (λ b. rw b)
-ticks-one m e es (another s q t) = either (eqb (apply m e .master .state) states.playback) (λ b. rw (q, t, b)) (λ b. rw (q, t, b))
+ticks-one m e es (another a q t) = either (eqb (apply m e .master .state) states.playback) (λ b. rw (q, t, b)) (λ b. rw (q, t, b))
 
 pub same-ticks : (m : Master) (es : List Event) → ticksOf (seenAll m es) ≡ ticksIn m es
 same-ticks m [] = refl
@@ -129,7 +129,7 @@ pub record Begins (m : Master) : Type 0 where
   pub blank : m .playback ≡ blankPlayback
   pub whole : Whole (m .sequence)
 
-begun : (b : Master) → apply b start .number ≡ 0 → apply b start .master ≡ withState (withPlayback b (b .tan) blankPlayback) states.playback
+pub begun : (b : Master) → apply b start .number ≡ 0 → apply b start .master ≡ withState (withPlayback b (b .tan) blankPlayback) states.playback
 unfolding startCall
 begun b z = after-is b (startCall b) z
 
@@ -142,3 +142,6 @@ pub run-is : (m : Master) → Begins m → (es : List Event) → Lasts m es
     → replay.playRun (m .sequence) (m .tan) (seenAll m es) ≡ going (runFrom m es .playback) (runFrom m es .tan)
 run-is m b es h =
     ap (λ (p : Playback). replay.playRunFrom (m .sequence) (going p (m .tan)) (seenAll m es)) (sym (b .blank)) ∙ lasting es m h .0
+
+pub whole-at : (m : Master) → Started m → (es : List Event) → Lasts m es → Whole (runFrom m es .sequence)
+whole-at m s es l = subst Whole (sym (lasting es m l .1)) (begins m s .whole)

@@ -1,39 +1,35 @@
 -- When the steps of a playback of the master leave, and when it ends: carried over from crate `replay` by `run-is`.
-use mathlib.Core.Path.{_≡_, sym, ap, subst}
+use mathlib.Core.Path.{_≡_, refl, sym, ap, _∙_, subst}
 use mathlib.Core.Bool.{true}
-use mathlib.Core.Logic.{_↔_, _⊎_, inl, inr}
+use mathlib.Core.Logic.{_↔_}
 use mathlib.Core.List.{List}
-use Prim.Native.Nat.{ℕ, suc, _≤_, _<_}
+use Prim.Native.Nat.{ℕ, _+_, _%_, _≤_, _<_}
 use native.Mathlib.Omega.{arith}
 use borrow.Author.Tests.{eqb-false}
 use lib.Dec.{eqb}
 use lib.ListN.{length}
 use Rattle.octets.specs.Pick.{pick}
-use Rattle.message.specs.Fields.{statusNumber}
 use Rattle.sequence.specs.Sequence.{lengthOf}
 use Rattle.sequence.specs.declared.Sequence.{Sequence}
-use Rattle.playback.specs.Answer.{isError, isAllDone}
-use Rattle.playback.specs.declared.Answered.{Answered}
-use Rattle.playback.specs.State.{goesOn, blankPlayback}
+use Rattle.playback.specs.declared.Playback.{Playback}
+use Rattle.playback.specs.State.{blankPlayback}
 use Rattle.master.specs.declared.Master.{Master}
 use Rattle.master.specs.Call.{Call, outcomeOf}
+use Rattle.master.specs.States as states
 use Rattle.master.specs.Messages.{replyIn}
-use Rattle.master.specs.Playback.{answered, replied, answerCall}
-use Rattle.master.specs.Tick.{tickCall}
-use Rattle.replay.specs.Run.{State, Going, ticksOf, sentAt, DueAt, Latest, raised}
+use Rattle.replay.specs.Run.{State, going, done, aborted, Going, ticksOf, sentAt, DueAt, Latest}
 use Rattle.replay.specs.Run as replay
-use Rattle.replay.proofs.Answers.{why-over}
+use Rattle.replay.proofs.Follows.{Good, Sound}
 use Rattle.replay.proofs.Theorems as theorems
 use Rattle.replay.proofs.Tans.{raised-tans}
 use Rattle.replay.proofs.Why as why
 use Rattle.events.specs.Events.{Event, tick, answer, apply, runFrom}
-use Rattle.events.specs.Causes.{Cause, isLast, answersError}
-use Rattle.events.proofs.Calls.{same-master, either-way}
+use Rattle.events.proofs.Calls.{same-master}
 use Rattle.events.proofs.Choices.{either}
-use Rattle.plays.specs.Plays.{Started, Playing, Lasts, ticksIn, LeftAt}
-use Rattle.plays.proofs.Calls.{Stays, keeps, aborts, seen, Shows, goes, isDone, isAborted, View, aTick, anAnswer, another, view, one}
-use Rattle.plays.proofs.Causes.{tick-cause}
-use Rattle.plays.proofs.Runs.{seenAll, accepted-mm, fair, same-ticks, lasts-last, lasting, Begins, begins, run-is}
+use Rattle.plays.specs.Plays.{Started, Playing, Lasts, ticksIn, tanOf, LeftAt, HasLeft}
+use Rattle.plays.proofs.Calls.{seen, Shows, goes, isDone, isAborted}
+use Rattle.plays.proofs.Runs.{seenAll, fair, same-ticks, lasting, Begins, begins, run-is}
+use Rattle.plays.proofs.Commands.{raised-is, tan-few, tan-is}
 
 pub starts : (m : Master) → Started m → Playing m × (m .playback ≡ blankPlayback)
 starts m s = let b = begins m s in (b .plays, b .blank)
@@ -66,73 +62,76 @@ calls-do-not-move m n s r q es fs l k e i t h =
     (subst (λ (x : Sequence). Latest x (ticksIn n fs) i t × (t ≤ length (ticksIn n fs))) q
     (subst (λ (mms : List ℕ). Latest (m .sequence) mms i t × (t ≤ length mms)) e (leaves-exactly m s es l i t .0 h)))
 
+-- the TANs, as crate `replay` has them
+pub own-tan : (m : Master) → Started m → (es : List Event) → Lasts m es → (i : ℕ) → i < runFrom m es .playback .sent → sentAt (runFrom m es .playback) i .tan ≡ tanOf m i
+own-tan m s es l i h =
+    let b = begins m s in
+    raised-tans (m .tan) (m .sequence) (b .whole) (seenAll m es) (fair m es) (runFrom m es .playback) (runFrom m es .tan) (run-is m b es l) .each i h ∙ tan-is m s i
+
 pub tans : (m : Master) → Started m → (es : List Event) → Lasts m es
-    → (runFrom m es .tan ≡ raised (m .tan) (runFrom m es .playback .sent))
-    × ((i : ℕ) → i < runFrom m es .playback .sent → sentAt (runFrom m es .playback) i .tan ≡ raised (m .tan) (suc i))
+    → (runFrom m es .tan ≡ (m .tan + runFrom m es .playback .sent) % 256)
+    × ((i : ℕ) → i < runFrom m es .playback .sent → sentAt (runFrom m es .playback) i .tan ≡ tanOf m i)
 tans m s es l =
     let b = begins m s in
     let r = raised-tans (m .tan) (m .sequence) (b .whole) (seenAll m es) (fair m es) (runFrom m es .playback) (runFrom m es .tan) (run-is m b es l) in
-    (r .last, r .each)
+    (r .last ∙ raised-is (m .tan) (runFrom m es .playback .sent) (tan-few m s), own-tan m s es l)
 
 pub ends-in-time : (m : Master) → Started m → (es : List Event) → 36000 ≤ length (ticksIn m es) → ¬ Lasts m es
 ends-in-time m s es h l =
     let b = begins m s in
     why.ends-in-time (m .sequence) (b .whole) (m .tan) (seenAll m es) (fair m es) (omega (arith, ap length (same-ticks m es))) (goes-on m b es l)
 
--- ---- why a playback ends
+-- ---- what is seen, and what the master has
+
+-- a playback counts its ticks
+pub ticks-are : (m : Master) → Started m → (es : List Event) → Lasts m es → runFrom m es .playback .ticks ≡ length (ticksIn m es)
+ticks-are m s es l =
+    let b = begins m s in
+    theorems.ticks-are (m .sequence) (b .whole) (m .tan) (seenAll m es) (fair m es) (runFrom m es .playback) (runFrom m es .tan) (run-is m b es l)
+    ∙ ap length (same-ticks m es)
+
+pub good : (m : Master) → Started m → (es : List Event) → Lasts m es → Good (runFrom m es .playback)
+good m s es l =
+    let b = begins m s in
+    subst Sound (run-is m b es l) (theorems.sound (m .sequence) (b .whole) (m .tan) (seenAll m es) (fair m es))
+
+pub left-seen : (m : Master) → Started m → (es : List Event) → Lasts m es → (i : ℕ) → i < runFrom m es .playback .sent → HasLeft m es i
+left-seen m s es l i h = let t = sentAt (runFrom m es .playback) i .left in (t, leaves-exactly m s es l i t .0 (h, refl))
+
+pub seen-left : (m : Master) → Started m → (es : List Event) → Lasts m es → (i : ℕ) → HasLeft m es i → i < runFrom m es .playback .sent
+seen-left m s es l i h = leaves-exactly m s es l i (h .0) .1 (h .1) .0
+
+-- a step that has left is one of the sequence
+pub is-step : (m : Master) (es : List Event) (i : ℕ) → HasLeft m es i → i < lengthOf (m .sequence)
+is-step m es i h = let p = h .1 .0 .none-later i (omega arith) in p .1 .reaching .there
+
+-- ---- a call that ends a playback
 
 pub goes-shown : (q : Sequence) (n : Master) (s : State) → Shows q n s → Going s → Playing n
 goes-shown q n s (goes p x a b c d) g = a
 goes-shown q n s (isDone p a) g = absurd g
 goes-shown q n s (isAborted a) g = absurd g
 
--- a call that ends a playback was not refused
-not-refused : (m : Master) (c : Call) → Playing m → ¬ Playing (outcomeOf m c .master) → eqb (outcomeOf m c .number) 0 ≡ true
+pub shows-aborted : (q : Sequence) (n : Master) → Shows q n aborted → n .state ≡ states.abort
+shows-aborted q n (isAborted a) = a
+
+pub shows-done : (q : Sequence) (n : Master) (p : Playback) → Shows q n (done p) → n .state ≡ states.ready
+shows-done q n p (isDone _ a) = a
+
+pub shows-going : (q : Sequence) (n : Master) (p : Playback) (x : ℕ) → Shows q n (going p x) → Playing n
+shows-going q n p x w = goes-shown q n (going p x) w tt
+
+-- it was not refused
+pub not-refused : (m : Master) (c : Call) → Playing m → ¬ Playing (outcomeOf m c .master) → eqb (outcomeOf m c .number) 0 ≡ true
 not-refused m c h np =
     either (eqb (outcomeOf m c .number) 0) (λ t. t) (λ f. absurd (np (subst Playing (sym (same-master m c (eqb-false (outcomeOf m c .number) 0 f))) h)))
 
--- an answer that ends it is an error, or the last
-plays-on : (m : Master) (a : Answered) → Playing m → a .end ≡ goesOn → Playing (replied m a)
-unfolding replied pick
-plays-on m a h z = rw z h
-
-ending-answer : (m : Master) (slot : ℕ) (msg out : List ℕ) → Playing m → ¬ Playing (apply m (answer slot msg out) .master) → answered m slot msg .end ≡ goesOn → ⊥
-unfolding answerCall
-ending-answer m slot msg out h np z = np (either-way m (answerCall m slot msg out) Playing (λ _. h) (λ _. plays-on m (answered m slot msg) h z))
-
--- an accepted tick is a tick
+-- an accepted tick is a tick, an accepted answer an answer
 pub seen-tick : (m : Master) (mm : ℕ) (out : List ℕ) → eqb (apply m (tick mm out) .number) 0 ≡ true → seen m (tick mm out) ≡ replay.tick mm
 unfolding pick
 seen-tick m mm out e = rw e
 
-pub tick-accepted : (m : Master) (mm : ℕ) (out : List ℕ) → Playing m → ¬ Playing (apply m (tick mm out) .master) → eqb (apply m (tick mm out) .number) 0 ≡ true
-tick-accepted m mm out h np = not-refused m (tickCall m mm out) h np
-
--- NOTHING ELSE ENDS IT
-caused : (m : Master) → Begins m → (es : List Event) → Lasts m es → (e : Event) → ¬ Playing (apply (runFrom m es) e .master) → View (runFrom m es) e
-    → Cause (runFrom m es) e
-caused m b es l e np (aTick mm out) =
-    let n = runFrom m es in
-    let a = tick-accepted n mm out (lasts-last es m l) np in
-    let f = lasting es m l .1 in
-    tick-cause (m .sequence) n mm out
-    (why.over-for-a-cause (m .sequence) (b .whole) (m .tan) (seenAll m es) (fair m es) (n .playback) (n .tan) (run-is m b es l) (replay.tick mm)
-    (accepted-mm n mm out a, tt)
-    (λ g. np (goes-shown (n .sequence) (apply n (tick mm out) .master) _ (one n (tick mm out) (lasts-last es m l)) (rw (seen-tick n mm out a, f) g))))
-caused m b es l e np (anAnswer slot msg out) =
-    let n = runFrom m es in
-    go (why-over (n .sequence) (n .playback) slot (replyIn msg) (ending-answer n slot msg out (lasts-last es m l) np))
-  where
-    go : (isError (statusNumber (replyIn msg .status)) (replyIn msg .error) ≡ true)
-        ⊎ (isAllDone (answered (runFrom m es) slot msg .playback) (lengthOf (runFrom m es .sequence)) ≡ true) → Cause (runFrom m es) (answer slot msg out)
-    go (inl x) = answersError slot msg out x
-    go (inr x) = isLast slot msg out x
-caused m b es l e np (another s q t) = go (s (lasts-last es m l))
-  where
-    go : Stays (runFrom m es) e (apply (runFrom m es) e .master) → Cause (runFrom m es) e
-    go (keeps x y z w) = absurd (np x)
-    go (aborts c x) = c
-
-pub over-for-a-cause : (m : Master) → Started m → (es : List Event) → Lasts m es → (e : Event) → ¬ Playing (apply (runFrom m es) e .master)
-    → Cause (runFrom m es) e
-over-for-a-cause m s es l e np = caused m (begins m s) es l e np (view (runFrom m es) e)
+pub seen-answer : (m : Master) (slot : ℕ) (msg out : List ℕ) → eqb (apply m (answer slot msg out) .number) 0 ≡ true
+    → seen m (answer slot msg out) ≡ replay.answer slot (replyIn msg)
+unfolding pick
+seen-answer m slot msg out e = rw e

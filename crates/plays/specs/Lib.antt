@@ -1,2 +1,5 @@
 pub mod Plays
+pub mod Leavings
+pub mod Frames
+pub mod Ends
 pub mod Promises

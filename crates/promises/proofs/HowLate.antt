@@ -6,7 +6,7 @@ use Rattle.promises.specs.HowLate.{HowLate}
 
 pub how-late : plays.Promises → HowLate
 how-late p m s es l i t left =
-    let latest = p .exactly m s es l i t .0 left .0 in
+    let latest = p .leavings .exactly m s es l i t .0 left .0 in
     let one = latest .one-of-them in
     record {
       step = one .0;

@@ -1,2 +1,3 @@
 pub mod HowLate
+pub mod Replayed
 pub mod Sample

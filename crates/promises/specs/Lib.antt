@@ -1,3 +1,5 @@
 pub mod HowLate
+pub mod Replayed
+pub mod Cases
 pub mod Sample
 pub mod Promises

@@ -5,11 +5,23 @@ ghost use Rattle.promises.specs.Promises.{Promises};
 pub fn promises()
     ensures { λ _. ⌜ Promises ⌝ }
 {
-    events::promises();
+    pool::cases();
+    pool::codes();
+    pool::edges();
+    profile::says();
     objects::round_trip();
+    objects::tables();
     message::promises();
+    message::clauses();
+    flat::promises();
+    flat::read_back();
+    shown::promises();
+    shown::examples();
     recording::promises();
-    history::promises();
     playback::promises();
-    plays::promises()
+    events::promises();
+    seen::promises();
+    history::promises();
+    plays::promises();
+    bound::determined()
 }

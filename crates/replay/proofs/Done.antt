@@ -4,7 +4,7 @@ use mathlib.Core.Bool.{Bool, true, false, not, _&&_, _||_, true≢false}
 use mathlib.Core.List.{List, [], _∷_}
 use Prim.Native.Nat.{ℕ, zero, suc, _≤_, _<_}
 use native.Mathlib.Omega.{arith}
-use borrow.Author.Tests.{leb-true, eqb-true}
+use borrow.Author.Tests.{le-leb, leb-true, eq-eqb, eqb-true}
 use lib.Dec.{eqb, leb}
 use lib.ListN.{getD, take, length}
 use Rattle.arrays.specs.Arrays.{some}
@@ -63,7 +63,7 @@ none-undone (suc n) (c ∷ cs) i e h k = go (eqb (c .answer) 2) refl i e h (λ j
     go true q (suc j) f l r = r j f (omega arith)
     go false q j f l r = absurd (true≢false (sym f))
 
-both : (a b : Bool) → (a && b) ≡ true → (a ≡ true) × (b ≡ true)
+pub both : (a b : Bool) → (a && b) ≡ true → (a ≡ true) × (b ≡ true)
 both true b e = (refl, e)
 both false b e = absurd (true≢false (sym e))
 
@@ -75,3 +75,15 @@ each-done sequence p g h i k =
     let e = both (leb (lengthOf sequence) (p .sent)) (not (some isUndone (take (p .sent) (p .commands)))) h in
     let l : i < p .sent = omega (arith, leb-true (lengthOf sequence) (p .sent) (e .0)) in
     (l, none-undone (p .sent) (p .commands) i (e .1) l (omega (arith, g .cells, g .within)))
+
+-- and the other way
+undone-none : (n : ℕ) (cs : List Sent) → n ≤ length cs → ((i : ℕ) → i < n → getD cs i blankSent .answer ≡ answerDone) → some isUndone (take n cs) ≡ false
+undone-none zero cs k h = refl
+undone-none (suc n) [] k h = absurd (omega arith)
+undone-none (suc n) (c ∷ cs) k h = rw (eq-eqb (c .answer) answerDone (h 0 (omega arith))) (undone-none n cs (omega arith) (λ i l. h (suc i) (omega arith)))
+
+pub all-done-is : (sequence : Sequence) (p : Playback) → Good p → lengthOf sequence ≤ p .sent → ((i : ℕ) → i < p .sent → sentAt p i .answer ≡ answerDone)
+    → isAllDone p (lengthOf sequence) ≡ true
+unfolding isAllDone someUndone
+all-done-is sequence p g l h =
+    rw (le-leb (lengthOf sequence) (p .sent) l, undone-none (p .sent) (p .commands) (omega (arith, g .cells, g .within)) h)

@@ -232,7 +232,7 @@ module _ (p : Playback) (i status tan : ℕ) where
   sim-answer m finishes = refl
   sim-answer m marks = rw (answer-cell (p .sent) (p .commands) i (ans.answerFrom status) (mark-is status))
 
-  keeps-answer : (v : Verdict) → Good p → Sound (answerState v p (withAnswer p i (ans.answerFrom status)) tan)
+  pub keeps-answer : (v : Verdict) → Good p → Sound (answerState v p (withAnswer p i (ans.answerFrom status)) tan)
   unfolding withAnswer
   keeps-answer nothing g = g
   keeps-answer fails g = tt

@@ -3,7 +3,6 @@ use mathlib.Core.Path.{_≡_, refl, ap, _∙_, subst}
 use mathlib.Core.Bool.{Bool, true, false}
 use mathlib.Core.List.{List, [], _∷_, _++_}
 use Prim.Native.Nat.{ℕ, suc, _+_, _≤_, _<_}
-use native.Mathlib.Decide.{decLe}
 use native.Mathlib.Omega.{arith}
 use lib.Seq.{getD-set-same, getD-set-other}
 use Rattle.message.specs.Fields.{statusNumber}
@@ -18,9 +17,9 @@ use Rattle.playback.specs.Tick.{countedPlayback, doesStop, doesLeave, nextTan, 
 use Rattle.playback.specs.Answer.{withAnswer}
 use Rattle.playback.specs.Answer as ans
 use Rattle.playback.proofs.Leaves.{leaves-within}
-use Rattle.replay.specs.Run.{PlaybackEvent, tick, answer, message, ends, State, going, done, aborted, stepOf, playRunFrom, Whole, Fair, sentAt}
+use Rattle.replay.specs.Run.{PlaybackEvent, tick, answer, message, ends, State, going, done, aborted, stepOf, playRunFrom, Whole, sentAt}
 use Rattle.replay.proofs.Cells.{marked-left, marked-tan}
-use Rattle.replay.proofs.Follows.{tickState, tick-shape, Verdict, nothing, fails, finishes, marks, answerState, answer-shape, matched, verdictOf, Good, Sound, ticks-counted, FairOne, fair-head, fair-tail, keeps}
+use Rattle.replay.proofs.Follows.{tickState, tick-shape, Verdict, nothing, fails, finishes, marks, answerState, answer-shape, matched, verdictOf, Good, Sound, ticks-counted, keeps}
 
 -- ---- a step that has left keeps its TAN and its tick, until the playback is over
 
@@ -71,11 +70,6 @@ pub run-append : (sequence : Sequence) (a b : List PlaybackEvent) (s : State) �
 run-append sequence [] b s = refl
 run-append sequence (e ∷ a) b s = run-append sequence a b (stepOf sequence s e)
 
-pub resume : (sequence : Sequence) (s r : State) (es a b : List PlaybackEvent) (mm : ℕ) → es ≡ a ++ tick mm ∷ b
-    → stepOf sequence (playRunFrom sequence s a) (tick mm) ≡ r → playRunFrom sequence s es ≡ playRunFrom sequence r b
-resume sequence s r es a b mm e f =
-    ap (λ (l : List PlaybackEvent). playRunFrom sequence s l) e ∙ run-append sequence a (tick mm ∷ b) s ∙ ap (λ (x : State). playRunFrom sequence x b) f
-
 -- a tick of the playback p lets step i leave
 pub record Leaving (sequence : Sequence) (p : Playback) (tan mm i : ℕ) : Type 0 where
   pub after : Playback
@@ -84,18 +78,6 @@ pub record Leaving (sequence : Sequence) (p : Playback) (tan mm i : ℕ) : Type 
   pub one : after .sent ≡ suc i
   pub kept : Good after
   pub cell : sentAt after i ≡ record { tan = nextTan tan; answer = answerNone; left = suc (p .ticks) }
-
-pub record First (sequence : Sequence) (s : State) (es : List PlaybackEvent) (i : ℕ) : Type 0 where
-  pub earlier : List PlaybackEvent
-  pub mm : ℕ
-  pub later : List PlaybackEvent
-  pub split : es ≡ earlier ++ tick mm ∷ later
-  pub fair : Fair earlier
-  pub before : Playback
-  pub tan : ℕ
-  pub was : playRunFrom sequence s earlier ≡ going before tan
-  pub good : Good before
-  pub leaving : Leaving sequence before tan mm i
 
 module _ (sequence : Sequence) (whole : Whole sequence) (i : ℕ) where
   pub leaving-tick : (p : Playback) (g : Good p) (mm tan : ℕ) → mm ≤ 65535 → p .sent ≤ i → i < sentOf (stepOf sequence (going p tan) (tick mm)) → Leaving sequence p tan mm i
@@ -130,47 +112,3 @@ module _ (sequence : Sequence) (whole : Whole sequence) (i : ℕ) where
   pub answer-sent : (p : Playback) (tan slot : ℕ) (reply : Reply) → sentOf (stepOf sequence (going p tan) (answer slot reply)) ≤ p .sent
   answer-sent p tan slot reply =
       rw answer-shape (same-sent (verdictOf sequence p slot reply) p (matched sequence p slot reply) (ans.answerFrom (statusNumber (reply .status))) tan)
-
-  here : (s : State) (e : PlaybackEvent) (es : List PlaybackEvent) → Sound s → FairOne e → sentOf s ≤ i → i < sentOf (stepOf sequence s e) → First sequence s (e ∷ es) i
-  here (done p) e es g f h k = absurd (omega arith)
-  here aborted e es g f h k = absurd (omega arith)
-  here (going p tan) (tick mm) es g f h k =
-      record { earlier = []; mm = mm; later = es; split = refl; fair = tt; before = p; tan = tan; was = refl; good = g; leaving = leaving-tick p g mm tan (f .0) h k }
-  here (going p tan) (answer slot reply) es g f h k =
-      absurd (omega (
-        arith,
-        same-sent (verdictOf sequence p slot reply) p (matched sequence p slot reply) (ans.answerFrom (statusNumber (reply .status))) tan,
-        subst (λ (s : State). i < sentOf s) (answer-shape sequence p slot reply tan) k,
-      ))
-  here (going p tan) message es g f h k = absurd (omega arith)
-  here (going p tan) ends es g f h k = absurd (omega arith)
-
-  fair-cons : (e : PlaybackEvent) (es : List PlaybackEvent) → FairOne e → Fair es → Fair (e ∷ es)
-  fair-cons (tick mm) es f h = (f .0, h)
-  fair-cons (answer a r) es f h = h
-  fair-cons message es f h = h
-  fair-cons ends es f h = h
-
-  pub find-first : (es : List PlaybackEvent) (s : State) → Sound s → Fair es → sentOf s ≤ i → i < sentOf (playRunFrom sequence s es) → First sequence s es i
-  find-first [] s g f h k = absurd (omega arith)
-  find-first (e ∷ es) s g f h k =
-      go (decLe (suc i) (sentOf (stepOf sequence s e))) (find-first es (stepOf sequence s e) (keeps sequence whole s e (fair-head e es f) g) (fair-tail e es f))
-    where
-      go : Dec (i < sentOf (stepOf sequence s e))
-          → (sentOf (stepOf sequence s e) ≤ i → i < sentOf (playRunFrom sequence (stepOf sequence s e) es) → First sequence (stepOf sequence s e) es i)
-          → First sequence s (e ∷ es) i
-      go (yes a) r = here s e es g (fair-head e es f) h a
-      go (no a) r =
-          let x = r (omega arith) k in
-          record {
-            earlier = e ∷ x .earlier;
-            mm = x .mm;
-            later = x .later;
-            split = ap (λ (l : List PlaybackEvent). e ∷ l) (x .split);
-            fair = fair-cons e (x .earlier) (fair-head e es f) (x .fair);
-            before = x .before;
-            tan = x .tan;
-            was = x .was;
-            good = x .good;
-            leaving = x .leaving;
-          }

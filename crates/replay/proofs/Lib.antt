@@ -1,9 +1,9 @@
 pub mod Cells
 pub mod Follows
-pub mod Frames
 pub mod Kept
 pub mod Tans
 pub mod Done
+pub mod Undone
 pub mod Answers
 pub mod Theorems
 pub mod Why

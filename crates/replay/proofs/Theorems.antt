@@ -1,26 +1,22 @@
 -- When the steps of a playback leave, by the definitions that the calls meet: carried over from crate `ticks` by `follows`.
 use mathlib.Core.Path.{_≡_, refl, sym, ap, _∙_, subst}
 use mathlib.Core.Logic.{_↔_, _⊎_, inl, inr}
-use mathlib.Core.Bool.{Bool, true, false, _&&_}
+use mathlib.Core.Bool.{Bool, true, false, not, _&&_, _||_}
 use mathlib.Core.List.{List, [], _∷_, _++_}
-use Prim.Native.Nat.{ℕ, suc, _+_, _-_, _≤_, _<_}
+use Prim.Native.Nat.{ℕ, _+_, _-_, _≤_, _<_}
 use native.Mathlib.Omega.{arith}
-use borrow.Author.Tests.{ltb-true}
-use lib.Dec.{T, ltb}
+use borrow.Author.Tests.{lt-ltb, le-leb, ltb-true, leb-true, eqb-true, eqb-false}
+use lib.Dec.{T, eqb, leb, ltb}
 use lib.ListN.{length, getD, take, length-drop}
 use Rattle.sequence.specs.Sequence.{blankStep, lengthOf}
 use Rattle.sequence.specs.declared.Sequence.{Sequence}
-use Rattle.playback.specs.declared.Sent.{Sent}
 use Rattle.playback.specs.declared.Playback.{Playback}
-use Rattle.playback.specs.State.{answerNone, blankPlayback}
-use Rattle.playback.specs.Tick.{answerTicks, nextTan}
-use Rattle.playback.specs.Frames.{frameOf, waitingOf}
-use Rattle.replay.specs.Run.{PlaybackEvent, tick, answer, message, ends, State, going, done, aborted, stepOf, playRunFrom, playRun, Going, Whole, Fair, ticksOf, sentAt, HasLeftAt, AnsweredAt, dueAfter, DueAt, Latest, InFrames, FirstFrame}
+use Rattle.playback.specs.State.{blankPlayback}
+use Rattle.playback.specs.Tick.{answerTicks, isDue}
+use Rattle.replay.specs.Run.{PlaybackEvent, tick, answer, message, ends, State, going, done, aborted, stepOf, playRunFrom, playRun, Going, Whole, Fair, ticksOf, HasLeftAt, AnsweredAt, Reaches, DueAt, Latest}
 use Rattle.replay.proofs.Cells.{marksIn, few, reached-is, length-lefts, left-cell, answered-back}
 use Rattle.replay.proofs.Follows.{played, project, seen, seenAll, Sound, sound-start, keeps-all, follows, same-ticks}
-use Rattle.replay.proofs.Frames.{in-frames, whose-frame}
 use Rattle.replay.proofs.Done.{Finished, finished, each-done}
-use Rattle.replay.proofs.Kept.{Holds, holds, sentOf, run-append, resume, find-first}
 use Rattle.ticks.specs.Queue as abs
 use Rattle.ticks.proofs.Theorems as theorems
 use Rattle.ticks.proofs.Follows as queue
@@ -52,17 +48,50 @@ left-going (going p x) i t h = tt
 left-going (done p) i t h = h
 left-going aborted i t h = h
 
+-- the code's test of a mark, and what it says
+abbrev dueAfter : Sequence → List ℕ → ℕ → ℕ → Bool
+dueAfter sequence mms j t = ltb j (lengthOf sequence) && isDue (getD (sequence .steps) j blankStep) t (abs.sum (take t mms))
+
+module _ (sequence : Sequence) (mms : List ℕ) (j t : ℕ) where
+  reaches-by : T (dueAfter sequence mms j t) → Reaches sequence mms j t
+  reaches-by h =
+      let s = getD (sequence .steps) j blankStep in
+      let d = abs.sum (take t mms) in
+      go (ltb j (lengthOf sequence)) (eqb (s .distance) 0) (leb (s .mark) t) (leb (s .mark) d) refl refl refl refl h
+    where
+      go : (a b x y : Bool) → ltb j (lengthOf sequence) ≡ a → eqb (getD (sequence .steps) j blankStep .distance) 0 ≡ b
+          → leb (getD (sequence .steps) j blankStep .mark) t ≡ x → leb (getD (sequence .steps) j blankStep .mark) (abs.sum (take t mms)) ≡ y
+          → T (a && ((b && x) || (not b && y))) → Reaches sequence mms j t
+      go true true true y p q u v k = record { there = ltb-true _ _ p; in-ticks = λ _. leb-true _ _ u; in-millimetres = λ n. absurd (n (eqb-true _ _ q)) }
+      go true false x true p q u v k = record { there = ltb-true _ _ p; in-ticks = λ z. absurd (eqb-false _ _ q z); in-millimetres = λ _. leb-true _ _ v }
+      go true true false y p q u v k = absurd k
+      go true false x false p q u v k = absurd k
+      go false b x y p q u v k = absurd k
+
+  by-reaches : Reaches sequence mms j t → T (dueAfter sequence mms j t)
+  by-reaches r = go (eqb (getD (sequence .steps) j blankStep .distance) 0) refl
+    where
+      go : (b : Bool) → eqb (getD (sequence .steps) j blankStep .distance) 0 ≡ b → T (dueAfter sequence mms j t)
+      go true q = rw (lt-ltb j (lengthOf sequence) (r .there), q, le-leb _ _ (r .in-ticks (eqb-true _ _ q))) tt
+      go false q = rw (lt-ltb j (lengthOf sequence) (r .there), q, le-leb _ _ (r .in-millimetres (eqb-false _ _ q))) tt
+
 module _ (sequence : Sequence) (whole : Whole sequence) (es : List abs.QueueEvent) (mms : List ℕ) (e : abs.tickList es ≡ mms) where
   same-due : (j u : ℕ) → abs.reachedAfter (marksIn sequence) (abs.tickList es) j u ≡ dueAfter sequence mms j u
   same-due j u = rw e (reached-is (sequence .steps) (lengthOf sequence) j u (abs.sum (take u mms)) (omega (arith, whole, few sequence)))
+
+  to-reaches : (j u : ℕ) → T (abs.reachedAfter (marksIn sequence) (abs.tickList es) j u) → Reaches sequence mms j u
+  to-reaches j u h = reaches-by sequence mms j u (subst T (same-due j u) h)
+
+  from-reaches : (j u : ℕ) → Reaches sequence mms j u → T (abs.reachedAfter (marksIn sequence) (abs.tickList es) j u)
+  from-reaches j u r = subst T (sym (same-due j u)) (by-reaches sequence mms j u r)
 
   to-due : (j t : ℕ) → abs.QueueDueAt (marksIn sequence) es j t → DueAt sequence mms j t
   to-due j t d =
       record {
         numbered = d .numbered;
         within = rw e at (d .within);
-        reaching = subst T (same-due j t) (d .reaching);
-        first = λ u a b h. d .first u a b (subst T (sym (same-due j u)) h);
+        reaching = to-reaches j t (d .reaching);
+        first = λ u a b h. d .first u a b (from-reaches j u h);
       }
 
   from-due : (j t : ℕ) → DueAt sequence mms j t → abs.QueueDueAt (marksIn sequence) es j t
@@ -70,8 +99,8 @@ module _ (sequence : Sequence) (whole : Whole sequence) (es : List abs.QueueEven
       record {
         numbered = d .numbered;
         within = rw e (d .within);
-        reaching = subst T (sym (same-due j t)) (d .reaching);
-        first = λ u a b h. d .first u a b (subst T (same-due j u) h);
+        reaching = from-reaches j t (d .reaching);
+        first = λ u a b h. d .first u a b (to-reaches j u h);
       }
 
   to-latest : (i t : ℕ) → abs.QueueLatest (marksIn sequence) es i t → Latest sequence mms i t
@@ -156,12 +185,8 @@ answered-from sequence (done p) i g f k h = let d = each-done sequence p g f i k
 answered-from sequence aborted i g f k h = inr refl
 
 -- a step that is due is one of the sequence
-is-step : (b c : Bool) → T (b && c) → b ≡ true
-is-step true c h = refl
-is-step false c h = absurd h
-
 pub due-step : (sequence : Sequence) (mms : List ℕ) (i t : ℕ) → DueAt sequence mms i t → i < lengthOf sequence
-due-step sequence mms i t d = ltb-true i (lengthOf sequence) (is-step (ltb i (lengthOf sequence)) _ (d .reaching))
+due-step sequence mms i t d = d .reaching .there
 
 pub sixteen : (sequence : Sequence) → Whole sequence → (tan : ℕ) (a b : List PlaybackEvent) → Fair (a ++ b)
     → (i t : ℕ) → HasLeftAt (playRun sequence tan a) i t → t + answerTicks ≤ length (ticksOf (a ++ b))
@@ -179,10 +204,9 @@ sixteen sequence whole tan a b f i t h l =
     (rw (run-is sequence whole tan a fa) at (left-to s (sound sequence whole tan a fa) i t h))
     (rw (← e, same-ticks sequence (a ++ b) (going blankPlayback tan)) l)))
 
--- ---- 4. STEP i FIRST STANDS IN THE FRAMES AT EXACTLY THE TICK AT WHICH IT LEAVES, WITH THE NEXT TAN
+-- ---- 4. A PLAYBACK COUNTS ITS TICKS
 
 module _ (sequence : Sequence) (whole : Whole sequence) (tan : ℕ) where
-  -- a playback counts its ticks
   pub ticks-are : (es : List PlaybackEvent) → Fair es → (p : Playback) (x : ℕ) → playRun sequence tan es ≡ going p x → p .ticks ≡ length (ticksOf es)
   ticks-are es f p x e =
       let m : queue.Matched (marksIn sequence) (abs.tickList (events sequence whole tan es)) [] (abs.playing (played p)) =
@@ -190,91 +214,3 @@ module _ (sequence : Sequence) (whole : Whole sequence) (tan : ℕ) where
       (sym (run-is sequence whole tan es f) ∙ ap project e)
       (queue.follows (marksIn sequence) (events sequence whole tan es)) in
       omega (arith, m .within, length-drop (p .ticks) (abs.tickList (events sequence whole tan es)), ap length (m .ahead), ap length (events-ticks sequence whole tan es))
-
-  left-sent : (s : State) (i t : ℕ) → HasLeftAt s i t → i < sentOf s
-  left-sent (going p x) i t h = h .0
-  left-sent (done p) i t h = absurd h
-  left-sent aborted i t h = absurd h
-
-  held-left : (s : State) (i x t u : ℕ) → Holds i x u s → HasLeftAt s i t → t ≡ u
-  held-left (going p y) i x t u h l = sym (l .1) ∙ h .2
-  held-left (done p) i x t u h l = absurd l
-  held-left aborted i x t u h l = absurd l
-
-  tanAt : State → ℕ → ℕ
-  tanAt (going p y) i = sentAt p i .tan
-  tanAt (done p) i = 0
-  tanAt aborted i = 0
-
-  holding : (s : State) (i u : ℕ) → HasLeftAt s i u → Holds i (tanAt s i) u s
-  unfolding tanAt
-  holding (going p y) i u l = (l .0, refl, l .1)
-  holding (done p) i u l = absurd l
-  holding aborted i u l = absurd l
-
-  start-sent : sentOf (going blankPlayback tan) ≡ 0
-  unfolding blankPlayback
-  start-sent = refl
-
-  pub first-frame : (es : List PlaybackEvent) → Fair es → (i t : ℕ) → HasLeftAt (playRun sequence tan es) i t → FirstFrame sequence tan es i t
-  first-frame es f i t h =
-      let x = find-first sequence whole i es (going blankPlayback tan) (sound-start tan) f (omega (arith, start-sent)) (left-sent (playRun sequence tan es) i t h) in
-      let l = x .leaving in
-      let y : stepOf sequence (playRun sequence tan (x .earlier)) (tick (x .mm)) ≡ going (l .after) (nextTan (x .tan)) = rw (x .was) (l .now) in
-      let c = l .cell in
-      let k : Holds i (nextTan (x .tan)) (suc (x .before .ticks)) (going (l .after) (nextTan (x .tan))) = (omega (arith, l .one), ap (λ (r : Sent). r .tan) c, ap (λ (r : Sent). r .left) c) in
-      let z : Holds i (nextTan (x .tan)) (suc (x .before .ticks)) (playRun sequence tan es) =
-      subst (λ (s : State). Holds i (nextTan (x .tan)) (suc (x .before .ticks)) s)
-      (sym (resume sequence (going blankPlayback tan) (going (l .after) (nextTan (x .tan))) es (x .earlier) (x .later) (x .mm) (x .split) y))
-      (holds i _ _ sequence (x .later) (going (l .after) (nextTan (x .tan))) k) in
-      let n = ticks-are (x .earlier) (x .fair) (x .before) (x .tan) (x .was) in
-      record {
-        earlier = x .earlier;
-        mm = x .mm;
-        later = x .later;
-        split = x .split;
-        number = omega (arith, held-left (playRun sequence tan es) i _ t _ z h);
-        before = x .before;
-        last = x .tan;
-        was = x .was;
-        none = l .none;
-        after = l .after;
-        now = resume sequence (going blankPlayback tan) (going (l .after) (nextTan (x .tan))) _ (x .earlier) [] (x .mm) refl y;
-        frame =
-            subst (λ (v : ℕ). InFrames sequence (l .after) i (frameOf (getD (sequence .steps) i blankStep) v)) (k .1)
-            (in-frames sequence whole (l .after) (l .kept) i (k .0) (ap (λ (r : Sent). r .answer) c));
-      }
-
-  -- before the tick at which it leaves, it has not left, and stands in no frame
-  pub not-before : (a b : List PlaybackEvent) → Fair (a ++ b) → (i t : ℕ) → HasLeftAt (playRun sequence tan (a ++ b)) i t → length (ticksOf a) < t
-      → (u : ℕ) → ¬ HasLeftAt (playRun sequence tan a) i u
-  not-before a b f i t h n u l =
-      let s = playRun sequence tan a in
-      let m = leaves-exactly sequence whole tan a (fair-left a b f) (left-going s i u l) i u .0 l .1 in
-      let z = subst (λ (r : State). Holds i (tanAt s i) u r) (sym (run-append sequence a b (going blankPlayback tan))) (holds i _ u sequence b s (holding s i u l)) in
-      omega (arith, held-left (playRun sequence tan (a ++ b)) i _ t u z h)
-
-  -- ---- 5. ITS BYTES ARE ITS OWN, AND THE SAME AT EACH REPEAT
-
-  pub own-bytes : (es : List PlaybackEvent) → Fair es → (p : Playback) (x : ℕ) → playRun sequence tan es ≡ going p x → (i : ℕ) → i < p .sent → sentAt p i .answer ≡ answerNone
-      → InFrames sequence p i (frameOf (getD (sequence .steps) i blankStep) (sentAt p i .tan))
-  own-bytes es f p x e i h w = in-frames sequence whole p (subst Sound e (sound sequence whole tan es f)) i h w
-
-  pub same-bytes : (a b : List PlaybackEvent) → Fair (a ++ b) → (p r : Playback) (x y : ℕ) → playRun sequence tan a ≡ going p x → playRun sequence tan (a ++ b) ≡ going r y
-      → (i : ℕ) (bytes bytes′ : List ℕ) → InFrames sequence p i bytes → InFrames sequence r i bytes′ → bytes ≡ bytes′
-  same-bytes a b f p r x y e g i bytes bytes′ u v =
-      let z : Holds i (sentAt p i .tan) (sentAt p i .left) (going r y) =
-      subst (λ (s : State). Holds i (sentAt p i .tan) (sentAt p i .left) s)
-      (ap (λ (s : State). playRunFrom sequence s b) (sym e) ∙ sym (run-append sequence a b (going blankPlayback tan)) ∙ g)
-      (holds i _ _ sequence b (going p x) (u .has-left, refl, refl)) in
-      let m = own-bytes a (fair-left a b f) p x e i (u .has-left) (u .waits) in
-      let n = own-bytes (a ++ b) f r y g i (v .has-left) (v .waits) in
-      sym (u .frame) ∙ m .frame ∙ ap (frameOf (getD (sequence .steps) i blankStep)) (sym (z .1)) ∙ sym (n .frame) ∙ v .frame
-
-  -- and there is no other frame: each of the frames that are counted is that of a step that has left and waits
-  pub no-other-frame : (es : List PlaybackEvent) → Fair es → (p : Playback) (x : ℕ) → playRun sequence tan es ≡ going p x → (k : ℕ) → k < waitingOf (p .sent) (p .commands)
-      → (i : ℕ) × InFrames sequence p i (frameOf (getD (sequence .steps) i blankStep) (sentAt p i .tan)) × (waitingOf i (p .commands) ≡ k)
-  no-other-frame es f p x e k h =
-      let g = subst Sound e (sound sequence whole tan es f) in
-      let w = whose-frame p g k h in
-      (w .0, in-frames sequence whole p g (w .0) (w .1) (w .2 .0), w .2 .1)

@@ -1,11 +1,11 @@
 -- A playback ends for a reason, and in time.
 use mathlib.Core.Path.{_≡_, refl, sym, ap, _∙_, subst}
 use mathlib.Core.Logic.{_⊎_, inl, inr}
-use mathlib.Core.Bool.{Bool, true, false, _&&_, _||_, true≢false}
+use mathlib.Core.Bool.{Bool, true, false, _&&_, _||_, true≢false, or-true}
 use mathlib.Core.List.{List, [], _∷_}
 use Prim.Native.Nat.{ℕ, zero, suc, _+_, _≤_, _<_}
 use native.Mathlib.Omega.{arith}
-use borrow.Author.Tests.{leb-true, eqb-true}
+use borrow.Author.Tests.{le-leb, leb-true, eq-eqb, eqb-true}
 use lib.Dec.{eqb, leb}
 use lib.ListN.{length, getD, take}
 use Rattle.sequence.specs.Sequence.{lastTick, lengthOf}
@@ -20,7 +20,7 @@ use Rattle.playback.specs.Tick.{answerTicks, countedPlayback, isLate, someLate,
 use Rattle.playback.specs.Answer.{answeredOf}
 use Rattle.replay.specs.Run.{PlaybackEvent, tick, answer, message, ends, State, going, done, aborted, afterAnswer, stepOf, playRun, Going, Whole, Fair, ticksOf, sentAt, PlaybackCause, outside, answered, tooLong, noAnswer}
 use Rattle.replay.proofs.Cells.{marksIn}
-use Rattle.replay.proofs.Follows.{project, tickState, tick-shape, ticks-counted, sent-counted, commands-counted, Sound}
+use Rattle.replay.proofs.Follows.{project, tickState, tick-shape, ticks-counted, sent-counted, commands-counted, Good, Sound}
 use Rattle.replay.proofs.Done.{Finished, finished, each-done}
 use Rattle.replay.proofs.Theorems.{events, run-is, events-ticks, sound}
 use Rattle.ticks.specs.Queue as abs
@@ -51,6 +51,14 @@ late t (suc n) (c ∷ cs) e = go (either (isLate t c) (some (isLate t) (take n c
         record { i = 0; has-left = omega arith; waits = eqb-true (c .answer) answerNone (w .0); long-ago = leb-true (c .left + answerTicks) t (w .1) }
     go (inr f) r = let l = r f in record { i = suc (l .i); has-left = omega (arith, l .has-left); waits = l .waits; long-ago = l .long-ago }
 
+-- and the other way
+is-late : (t n : ℕ) (cs : List Sent) (i : ℕ) → i < n → n ≤ length cs → getD cs i blankSent .answer ≡ answerNone → getD cs i blankSent .left + answerTicks ≤ t
+    → some (isLate t) (take n cs) ≡ true
+is-late t zero cs i h k w l = absurd (omega arith)
+is-late t (suc n) [] i h k w l = absurd (omega arith)
+is-late t (suc n) (c ∷ cs) zero h k w l = rw (eq-eqb (c .answer) answerNone w, le-leb (c .left + answerTicks) t l)
+is-late t (suc n) (c ∷ cs) (suc i) h k w l = rw (is-late t n cs i (omega arith) (omega arith) w l) (or-true (isLate t c))
+
 stopped : (a b : Bool) (q : Playback) (tan : ℕ) → ¬ Going (tickState a b q tan) → a ≡ true
 stopped true b q tan e = refl
 stopped false true q tan e = absurd (e tt)
@@ -78,6 +86,19 @@ module _ (sequence : Sequence) (whole : Whole sequence) (tan : ℕ) where
       answered slot reply (not-over (answeredOf p sequence slot reply) x o)
   over-for-a-cause es f p x r message g o = absurd (o tt)
   over-for-a-cause es f p x r ends g o = outside
+
+  -- AND A TICK WITH SUCH A CAUSE ABORTS IT
+  pub aborts-for-a-cause : (p : Playback) → Good p → (x mm : ℕ) → mm ≤ 65535 → PlaybackCause sequence p (tick mm) → stepOf sequence (going p x) (tick mm) ≡ aborted
+  unfolding doesStop someLate
+  aborts-for-a-cause p g x mm f c =
+      tick-shape p sequence x mm
+      ∙ ap (λ (b : Bool). tickState b (doesLeave (countedPlayback p mm) (sequence .steps) (lengthOf sequence)) (countedPlayback p mm) x) (stops c)
+    where
+      stops : PlaybackCause sequence p (tick mm) → doesStop (countedPlayback p mm) ≡ true
+      stops (tooLong _ h) = rw (ticks-counted p mm g f, le-leb lastTick (suc (p .ticks)) (omega (arith, h)))
+      stops (noAnswer _ i a w h) =
+          rw (ticks-counted p mm g f, sent-counted p mm g f, commands-counted p mm g f, is-late (suc (p .ticks)) (p .sent) (p .commands) i a (omega (arith, g .cells, g .within)) w (omega (arith, h)))
+          (or-true (leb lastTick (suc (p .ticks))))
 
   over-is : (s : State) → project s ≡ abs.over → ¬ Going s
   over-is (done p) e g = g

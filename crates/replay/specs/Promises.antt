@@ -1,14 +1,14 @@
--- When the steps of a playback leave, what stands in their frames, and when it ends: of every run of the calls' definitions, from the start, over a sequence
+-- When the steps of a playback leave, and when it ends: of every run of the calls' definitions, from the start, over a sequence
 -- in an array of 64 and ticks of at most 65,535 mm.
 use Prim.Native.Nat.{ℕ, _+_, _≤_, _<_}
 use mathlib.Core.Path.{_≡_}
 use mathlib.Core.Logic.{_↔_, _⊎_}
 use mathlib.Core.List.{List, [], _∷_, _++_}
-use lib.ListN.{length, getD}
-use Rattle.sequence.specs.Sequence.{lastTick, blankStep, lengthOf}
+use lib.ListN.{length}
+use Rattle.sequence.specs.Sequence.{lastTick, lengthOf}
 use Rattle.sequence.specs.declared.Sequence.{Sequence}
-use Rattle.playback.specs.{declared.Playback.Playback, Frames.frameOf, Frames.waitingOf, State.answerNone, State.answerDone, Tick.answerTicks}
-use Rattle.replay.specs.Run.{PlaybackEvent, going, done, aborted, stepOf, playRun, Going, Whole, Fair, ticksOf, sentAt, HasLeftAt, AnsweredAt, DueAt, Latest, InFrames, FirstFrame, Raised, PlaybackCause}
+use Rattle.playback.specs.{declared.Playback.Playback, State.answerDone, Tick.answerTicks}
+use Rattle.replay.specs.Run.{PlaybackEvent, going, done, aborted, stepOf, playRun, Going, Whole, Fair, ticksOf, sentAt, HasLeftAt, AnsweredAt, DueAt, Latest, Raised, PlaybackCause}
 
 pub record Promises : Type 0 where
   -- "While the playback lasts, step i first leaves at exactly the latest of these ticks"
@@ -17,23 +17,6 @@ pub record Promises : Type 0 where
   -- "While one of them is not yet due, step i does not leave."
   pub waits : (sequence : Sequence) → Whole sequence → (tan : ℕ) (es : List PlaybackEvent) → Fair es → (i j : ℕ) → j ≤ i
       → ((d : ℕ) → ¬ DueAt sequence (ticksOf es) j d) → (t : ℕ) → ¬ HasLeftAt (playRun sequence tan es) i t
-  -- "It goes to its own client with its own function, state and recorded value": at the tick at which it leaves it first stands in the frames
-  pub first : (sequence : Sequence) → Whole sequence → (tan : ℕ) (es : List PlaybackEvent) → Fair es
-      → (i t : ℕ) → HasLeftAt (playRun sequence tan es) i t → FirstFrame sequence tan es i t
-  -- before that tick it has not left
-  pub not-before : (sequence : Sequence) → Whole sequence → (tan : ℕ) (a b : List PlaybackEvent) → Fair (a ++ b)
-      → (i t : ℕ) → HasLeftAt (playRun sequence tan (a ++ b)) i t → length (ticksOf a) < t → (u : ℕ) → ¬ HasLeftAt (playRun sequence tan a) i u
-  -- until it is answered it stands there after every event, with its own bytes
-  pub own : (sequence : Sequence) → Whole sequence → (tan : ℕ) (es : List PlaybackEvent) → Fair es → (p : Playback) (x : ℕ) → playRun sequence tan es ≡ going p x
-      → (i : ℕ) → i < p .sent → sentAt p i .answer ≡ answerNone → InFrames sequence p i (frameOf (getD (sequence .steps) i blankStep) (sentAt p i .tan))
-  -- "and each repeat is the same command"
-  pub same : (sequence : Sequence) → Whole sequence → (tan : ℕ) (a b : List PlaybackEvent) → Fair (a ++ b) → (p r : Playback) (x y : ℕ)
-      → playRun sequence tan a ≡ going p x → playRun sequence tan (a ++ b) ≡ going r y
-      → (i : ℕ) (bytes bytes′ : List ℕ) → InFrames sequence p i bytes → InFrames sequence r i bytes′ → bytes ≡ bytes′
-  -- and there is no other frame: each of those that are counted is that of a step that has left and waits
-  pub no-other : (sequence : Sequence) → Whole sequence → (tan : ℕ) (es : List PlaybackEvent) → Fair es → (p : Playback) (x : ℕ) → playRun sequence tan es ≡ going p x
-      → (k : ℕ) → k < waitingOf (p .sent) (p .commands)
-      → (i : ℕ) × InFrames sequence p i (frameOf (getD (sequence .steps) i blankStep) (sentAt p i .tan)) × (waitingOf i (p .commands) ≡ k)
   -- "The TAN .. rises by 1 before each new command, 255 to 0."
   pub tans : (sequence : Sequence) → Whole sequence → (tan : ℕ) (es : List PlaybackEvent) → Fair es → (p : Playback) (x : ℕ) → playRun sequence tan es ≡ going p x
       → Raised tan p x

@@ -1,18 +1,16 @@
 -- Runs of a playback, event by event, by the definitions that the calls of crate `playback` meet: `tickOf` and `answeredOf`.
-use Prim.Native.Nat.{ℕ, zero, suc, _+_, _-_, _*_, _≤_, _<_}
+use Prim.Native.Nat.{ℕ, zero, suc, _+_, _-_, _≤_, _<_}
 use mathlib.Core.Path.{_≡_}
-use mathlib.Core.Bool.{Bool, _&&_}
-use mathlib.Core.List.{List, [], _∷_, _++_}
-use lib.Dec.{T, eqb, ltb}
-use lib.ListN.{length, getD, take, drop}
+use mathlib.Core.List.{List, [], _∷_}
+use lib.Dec.{eqb}
+use lib.ListN.{length, getD, take}
 use Rattle.octets.specs.Pick.{pick}
 use Rattle.message.specs.declared.Reply.{Reply}
 use Rattle.sequence.specs.Sequence.{mostSteps, lastTick, blankStep, lengthOf}
 use Rattle.sequence.specs.declared.Sequence.{Sequence}
 use Rattle.playback.specs.{declared.Sent.Sent, declared.Playback.Playback, declared.Ticked.Ticked, declared.Answered.Answered, Answer.answeredOf}
 use Rattle.playback.specs.State.{answerNone, goesOn, toReady, toAbort, blankSent, blankPlayback}
-use Rattle.playback.specs.Tick.{answerTicks, isDue, tickOf, nextTan}
-use Rattle.playback.specs.Frames.{frameOf, framesOf, waitingOf}
+use Rattle.playback.specs.Tick.{answerTicks, tickOf, nextTan}
 use Rattle.ticks.specs.Queue.{sum}
 
 -- ---- events
@@ -98,25 +96,37 @@ HasLeftAt (going p tan) i t = (i < p .sent) × (sentAt p i .left ≡ t)
 HasLeftAt (done p) i t = ⊥
 HasLeftAt aborted i t = ⊥
 
+-- step i has left, and this holds of the answer beside it
+abbrev pub Says : (ℕ → Type 0) → Playback → ℕ → Type 0
+Says P p i = (i < p .sent) × P (sentAt p i .answer)
+
+abbrev pub SaysAt : (ℕ → Type 0) → State → ℕ → Type 0
+SaysAt P (going p tan) i = Says P p i
+SaysAt P (done p) i = Says P p i
+SaysAt P aborted i = ⊥
+
+abbrev pub Answer : ℕ → Type 0
+Answer a = a ≡ answerNone → ⊥
+
 -- step i has left, and is answered
 abbrev pub HasAnswer : Playback → ℕ → Type 0
-HasAnswer p i = (i < p .sent) × (sentAt p i .answer ≡ answerNone → ⊥)
+HasAnswer p i = Says Answer p i
 
 abbrev pub AnsweredAt : State → ℕ → Type 0
-AnsweredAt (going p tan) i = HasAnswer p i
-AnsweredAt (done p) i = HasAnswer p i
-AnsweredAt aborted i = ⊥
+AnsweredAt s i = SaysAt Answer s i
 
--- there is a step j, and its mark is reached by the counters after tick t: t ticks, and the millimetres of the first t ticks
-abbrev pub dueAfter : Sequence → List ℕ → ℕ → ℕ → Bool
-dueAfter sequence mms j t = ltb j (lengthOf sequence) && isDue (getD (sequence .steps) j blankStep) t (sum (take t mms))
+-- there is a step j, and tick t reaches its mark: t ticks, or, where the mark is in millimetres, the millimetres of the first t ticks
+pub record Reaches (sequence : Sequence) (mms : List ℕ) (j t : ℕ) : Type 0 where
+  pub there : j < lengthOf sequence
+  pub in-ticks : getD (sequence .steps) j blankStep .distance ≡ 0 → getD (sequence .steps) j blankStep .mark ≤ t
+  pub in-millimetres : (getD (sequence .steps) j blankStep .distance ≡ 0 → ⊥) → getD (sequence .steps) j blankStep .mark ≤ sum (take t mms)
 
 -- "a step is due at the first tick that reaches its mark": step j, at tick t
 pub record DueAt (sequence : Sequence) (mms : List ℕ) (j t : ℕ) : Type 0 where
   pub numbered : 1 ≤ t
   pub within : t ≤ length mms
-  pub reaching : T (dueAfter sequence mms j t)
-  pub first : (u : ℕ) → 1 ≤ u → u < t → ¬ T (dueAfter sequence mms j u)
+  pub reaching : Reaches sequence mms j t
+  pub first : (u : ℕ) → 1 ≤ u → u < t → ¬ Reaches sequence mms j u
 
 -- t is "the latest of these ticks: for each step j up to i, the tick where j is due, plus i minus j"
 pub record Latest (sequence : Sequence) (mms : List ℕ) (i t : ℕ) : Type 0 where
@@ -124,28 +134,6 @@ pub record Latest (sequence : Sequence) (mms : List ℕ) (i t : ℕ) : Type 0 wh
   pub none-later : (j : ℕ) → j ≤ i → (d : ℕ) × DueAt sequence mms j d × (d + (i - j) ≤ t)
   -- it is one of them
   pub one-of-them : (j : ℕ) × (j ≤ i) × ((d : ℕ) × DueAt sequence mms j d × (d + (i - j) ≡ t))
-
--- step i stands in the frames of the playback: it has left, it is not answered, and frame number k, where k sent and unanswered
--- steps are before it, is these bytes
-pub record InFrames (sequence : Sequence) (p : Playback) (i : ℕ) (bytes : List ℕ) : Type 0 where
-  pub has-left : i < p .sent
-  pub waits : sentAt p i .answer ≡ answerNone
-  pub frame : take 9 (drop (waitingOf i (p .commands) * 9) (framesOf p (sequence .steps))) ≡ bytes
-
--- the run comes to a tick, the t-th, before which i steps have left, and after which step i stands in the frames with its own bytes and the next TAN
-pub record FirstFrame (sequence : Sequence) (tan : ℕ) (es : List PlaybackEvent) (i t : ℕ) : Type 0 where
-  pub earlier : List PlaybackEvent
-  pub mm : ℕ
-  pub later : List PlaybackEvent
-  pub split : es ≡ earlier ++ tick mm ∷ later
-  pub number : length (ticksOf earlier) + 1 ≡ t
-  pub before : Playback
-  pub last : ℕ
-  pub was : playRun sequence tan earlier ≡ going before last
-  pub none : before .sent ≡ i
-  pub after : Playback
-  pub now : playRun sequence tan (earlier ++ tick mm ∷ []) ≡ going after (nextTan last)
-  pub frame : InFrames sequence after i (frameOf (getD (sequence .steps) i blankStep) (nextTan last))
 
 -- the TAN, raised n times
 abbrev pub raised : ℕ → ℕ → ℕ

@@ -1,5 +1,4 @@
-// When the steps of a playback leave, what stands in their frames, and when it ends: theorems on runs of the definitions that the calls of crate
-// `playback` meet.
+// When the steps of a playback leave, and when it ends: theorems on runs of the definitions that the calls of crate `playback` meet.
 ghost use Rattle.replay.specs.Promises.{Promises};
 
 // What holds of every run.

@@ -1,11 +1,8 @@
--- `events::promises` meets its contract, by the theorems; the cases of pools are what pool::cases ensures.
-use borrow.Author.Needs.{needs}
-use Rattle.events.proofs.Theorems.{refused-same, in-table, ordered, inactive, determined}
+-- `events::promises` meets its contract, by the theorems.
+use Rattle.events.proofs.Theorems.{refused-same, in-table, ordered, inactive}
 use Rattle.events.proofs.Accepts.{never-refused}
 use Rattle.events.proofs.Starts.{start-exactly}
 use Rattle.events.proofs.Regular.{never-cut, never-bites}
-use Rattle.message.proofs.Cases as message
-use Rattle.playback.proofs.Cases as playback
 use Rattle.events.proofs.promises.Statement.{statement}
 use Rattle.events.proofs.promises.Tie as tie
 
@@ -16,12 +13,10 @@ returns c = record {
   ordered = ordered;
   never-refused = never-refused;
   inactive = inactive;
-  determined = determined;
   start-exactly = start-exactly;
   never-cut = never-cut;
   never-bites = never-bites;
-  cases = record { pools = c .cases .ensures; messages = message.cases; ticks = playback.cases };
 }
 
 pub promises-spec : {M : Type 1} → statement M
-promises-spec = tie.close (tie.spec (λ c κs. search needs) returns)
+promises-spec = tie.close (tie.spec returns)

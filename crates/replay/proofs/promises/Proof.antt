@@ -1,6 +1,6 @@
 -- `replay::promises` meets its contract, by the theorems.
 use Rattle.replay.proofs.Tans.{raised-tans}
-use Rattle.replay.proofs.Theorems.{leaves-exactly, not-yet-due, messages-do-not-move, sixteen, first-frame, not-before, own-bytes, same-bytes, no-other-frame}
+use Rattle.replay.proofs.Theorems.{leaves-exactly, not-yet-due, messages-do-not-move, sixteen}
 use Rattle.replay.proofs.Why.{ends-in-time, over-for-a-cause, all-done}
 use Rattle.replay.proofs.promises.Statement.{statement}
 use Rattle.replay.proofs.promises.Tie as tie
@@ -12,11 +12,6 @@ promises-spec =
     (λ c. record {
       exactly = leaves-exactly;
       waits = not-yet-due;
-      first = first-frame;
-      not-before = not-before;
-      own = own-bytes;
-      same = same-bytes;
-      no-other = no-other-frame;
       tans = λ sequence whole tan. raised-tans tan sequence whole;
       unmoved = messages-do-not-move;
       sixteen = sixteen;

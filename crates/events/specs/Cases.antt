@@ -1,9 +1,0 @@
--- 01, "Cases (★ proved, all in a single theorem; the rest are run)": those of pools, of messages and of ticks, each with its sentence where it is stated.
-use Rattle.pool.specs.Cases as pool
-use Rattle.message.specs.Promises as message
-use Rattle.playback.specs.Cases as playback
-
-pub record Cases : Type 0 where
-  pub pools : pool.Cases
-  pub messages : message.MessageCases
-  pub ticks : playback.Cases

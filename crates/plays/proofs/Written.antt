@@ -1,0 +1,330 @@
+-- The lent bytes after a tick: the commands of the steps that wait, one after the other; and the tick at which a step first stands there.
+use mathlib.Core.Path.{_≡_, refl, sym, ap, _∙_, subst}
+use mathlib.Core.Bool.{true}
+use mathlib.Core.Logic.{_↔_}
+use mathlib.Core.List.{List, [], _∷_, _++_, flatMap, append-assoc}
+use Prim.Native.Nat.{ℕ, suc, _+_, _-_, _*_, _≤_, _<_}
+use native.Mathlib.Nat.{zero-add}
+use native.Mathlib.Omega.{arith}
+use native.Mathlib.Decide.{decLe}
+use borrow.Author.Tests.{eq-eqb, ne-eqb, eqb-true, eqb-false}
+use lib.Dec.{eqb}
+use lib.ListN.{length, getD, take, drop, replicate, length-take}
+use lib.Seq.{getD-take}
+use Rattle.octets.proofs.Tests.{pick-true, pick-false}
+use Rattle.sequence.specs.Sequence.{blankStep}
+use Rattle.sequence.specs.declared.Sequence.{Sequence}
+use Rattle.playback.specs.declared.Sent.{Sent}
+use Rattle.playback.specs.declared.Playback.{Playback}
+use Rattle.playback.specs.State.{answerNone, blankSent, blankPlayback}
+use Rattle.playback.specs.Tick.{nextTan}
+use Rattle.playback.specs.Frames.{frameOf, framed, filledOf, framesOf, waitingOf}
+use Rattle.playback.proofs.Fill.{nine}
+use Rattle.playback.proofs.Framing.{waiting-few}
+use Rattle.master.specs.declared.Master.{Master}
+use Rattle.master.specs.States as states
+use Rattle.master.specs.Messages.{replyIn}
+use Rattle.master.specs.Tick.{noFrames, framesIn, countIn, tickCall}
+use Rattle.replay.specs.Run.{State, going, done, aborted, stepOf, Whole, sentAt}
+use Rattle.replay.specs.Run as replay
+use Rattle.replay.proofs.Follows.{Good}
+use Rattle.replay.proofs.Kept as kept
+use Rattle.events.specs.Events.{Event, tick, answer, apply, lentAfter, runFrom}
+use Rattle.events.proofs.Calls.{after-is, count-is, written-is}
+use Rattle.events.proofs.Choices.{chosen, chosen-by, either}
+use Rattle.plays.specs.Plays.{Started, Playing, Lasts, stepAt, commandOf, LeftAt}
+use Rattle.plays.specs.Frames.{Unanswered, Member, FramesAt, FirstLeaves, frameAt}
+use Rattle.plays.proofs.Calls.{Stays, keeps, aborts, stays, View, aTick, anAnswer, another, view}
+use Rattle.plays.proofs.Runs.{seenAll, whole-at, accepted-mm, run-append, lasts-head, lasts-last, lasts-append, lasting, Begins, begins}
+use Rattle.plays.proofs.Commands.{command-is, nine-bytes}
+use Rattle.plays.proofs.Theorems.{ticks-are, good, own-tan, left-seen, seen-left, is-step}
+use Rattle.plays.proofs.Replies.{next, replies}
+use Rattle.plays.proofs.Waiting.{waitingFrom, how-many, ascends, member-waits, waits-member, waiting-last, frames-are, pad-is, frame-of, member-at, at-member}
+
+-- ---- an accepted tick writes and counts the frames of the master after it
+
+lent-is : (m : Master) (mm : ℕ) (out : List ℕ) → apply m (tick mm out) .number ≡ 0
+    → lentAfter m (tick mm out) ≡ framesIn (apply m (tick mm out) .master) ++ drop 576 out
+unfolding tickCall
+lent-is m mm out z =
+    written-is m (tickCall m mm out) z ∙ ap (λ (n : Master). framesIn n ++ drop 576 out) (sym (after-is m (tickCall m mm out) z))
+
+counted-is : (m : Master) (mm : ℕ) (out : List ℕ) → apply m (tick mm out) .number ≡ 0 → apply m (tick mm out) .count ≡ countIn (apply m (tick mm out) .master)
+unfolding tickCall
+counted-is m mm out z = count-is m (tickCall m mm out) z ∙ ap countIn (sym (after-is m (tickCall m mm out) z))
+
+frames-of : (n : Master) → Playing n → framesIn n ≡ framesOf (n .playback) (n .sequence .steps)
+unfolding framesIn
+frames-of n h = pick-true _ _ _ (eq-eqb (n .state) states.playback h)
+
+count-of : (n : Master) → Playing n → countIn n ≡ waitingOf (n .playback .sent) (n .playback .commands)
+unfolding countIn
+count-of n h = pick-true _ _ _ (eq-eqb (n .state) states.playback h)
+
+-- A TICK AFTER WHICH THE MASTER IS NOT IN PLAYBACK WRITES ZEROS
+none-of : (n : Master) → ¬ Playing n → (framesIn n ≡ replicate 576 0) × (countIn n ≡ 0)
+unfolding framesIn countIn noFrames
+none-of n h = let e = ne-eqb (n .state) states.playback h in (pick-false _ _ _ e, pick-false _ _ _ e)
+
+pub no-frames : (m : Master) (mm : ℕ) (out : List ℕ) → apply m (tick mm out) .number ≡ 0 → ¬ Playing (apply m (tick mm out) .master)
+    → (lentAfter m (tick mm out) ≡ replicate 576 0 ++ drop 576 out) × (apply m (tick mm out) .count ≡ 0)
+no-frames m mm out z h =
+    let n = none-of (apply m (tick mm out) .master) h in
+    (lent-is m mm out z ∙ ap (λ (l : List ℕ). l ++ drop 576 out) (n .0), counted-is m mm out z ∙ n .1)
+
+-- ---- the steps that wait
+
+module _ (m : Master) (s : Started m) (es : List Event) (l : Lasts m es) where
+  abbrev sentCells : List Sent
+  sentCells = take (runFrom m es .playback .sent) (runFrom m es .playback .commands)
+
+  how-long : length sentCells ≡ runFrom m es .playback .sent
+  how-long = let g = good m s es l in omega (arith, length-take (runFrom m es .playback .sent) (runFrom m es .playback .commands), g .cells, g .within)
+
+  at-cell : (i : ℕ) → i < runFrom m es .playback .sent → getD sentCells i blankSent ≡ sentAt (runFrom m es .playback) i
+  at-cell i h = getD-take (runFrom m es .playback .sent) (runFrom m es .playback .commands) i blankSent h
+
+  waits-is : (i : ℕ) → Member i (waitingFrom 0 sentCells) ↔ Unanswered m es i
+  waits-is i = (to, from)
+    where
+      to : Member i (waitingFrom 0 sentCells) → Unanswered m es i
+      to h =
+          let w = member-waits 0 sentCells i h in
+          let e : i ≡ w .cell = omega (arith, w .is) in
+          let k : i < runFrom m es .playback .sent = omega (arith, w .within, how-long) in
+          let a : sentAt (runFrom m es .playback) i .answer ≡ answerNone =
+          ap (λ (c : Sent). c .answer) (sym (at-cell i k)) ∙ ap (λ (j : ℕ). getD sentCells j blankSent .answer) e ∙ eqb-true _ _ (w .waits) in
+          (left-seen m s es l i k, λ r. replies m s es l i .1 r .1 a)
+
+      from : Unanswered m es i → Member i (waitingFrom 0 sentCells)
+      from h =
+          let k = seen-left m s es l i (h .0) in
+          let a : eqb (sentAt (runFrom m es .playback) i .answer) answerNone ≡ true =
+          either _ (λ t. t) (λ f. absurd (h .1 (replies m s es l i .0 (k, eqb-false _ _ f)))) in
+          subst (λ (j : ℕ). Member j (waitingFrom 0 sentCells)) (zero-add i)
+          (waits-member 0 sentCells i (omega (arith, k, how-long)) (ap (λ (c : Sent). eqb (c .answer) answerNone) (at-cell i k) ∙ a))
+
+  own-frame : (i : ℕ) → i < length sentCells → frameOf (getD (runFrom m es .sequence .steps) i blankStep) (getD sentCells i blankSent .tan) ≡ commandOf m (0 + i)
+  own-frame i h =
+      let k : i < runFrom m es .playback .sent = omega (arith, h, how-long) in
+      ap (λ (q : Sequence). frameOf (getD (q .steps) i blankStep) (getD sentCells i blankSent .tan)) (lasting es m l .1)
+      ∙ ap (frameOf (stepAt m i)) (ap (λ (c : Sent). c .tan) (at-cell i k) ∙ own-tan m s es l i k)
+      ∙ command-is m s i (is-step m es i (left-seen m s es l i k))
+      ∙ ap (commandOf m) (sym (zero-add i))
+
+  few-waiting : length (waitingFrom 0 sentCells) ≤ 64
+  few-waiting = omega (arith, how-many 0 sentCells, waiting-few sentCells, how-long, good m s es l .within)
+
+  frames-filled : framesOf (runFrom m es .playback) (runFrom m es .sequence .steps)
+      ≡ flatMap (commandOf m) (waitingFrom 0 sentCells) ++ replicate (576 - 9 * length (waitingFrom 0 sentCells)) 0
+  unfolding framesOf filledOf
+  frames-filled =
+      let ss = runFrom m es .sequence .steps in
+      let g = good m s es l in
+      let whole : length ss ≡ 64 = whole-at m s es l in
+      let short : length sentCells ≤ length ss = omega (arith, how-long, g .within, whole) in
+      let n = nine sentCells ss short in
+      let q : 576 - length (framed sentCells ss) ≡ 576 - 9 * length (waitingFrom 0 sentCells) = omega (arith, n, how-many 0 sentCells) in
+      pad-is 576 (framed sentCells ss) (omega (arith, n, how-many 0 sentCells, few-waiting))
+      ∙ ap (λ (k : ℕ). framed sentCells ss ++ replicate k 0) q
+      ∙ ap (λ (x : List ℕ). x ++ replicate (576 - 9 * length (waitingFrom 0 sentCells)) 0) (frames-are (commandOf m) 0 sentCells ss short own-frame)
+
+  count-waiting : waitingOf (runFrom m es .playback .sent) (runFrom m es .playback .commands) ≡ length (waitingFrom 0 sentCells)
+  unfolding waitingOf
+  count-waiting = sym (how-many 0 sentCells)
+
+-- WHAT A TICK WRITES
+module _ (m : Master) (s : Started m) (es : List Event) (mm : ℕ) (out : List ℕ) (l : Lasts m (es ++ tick mm out ∷ []))
+    (z : apply (runFrom m es) (tick mm out) .number ≡ 0) where
+  abbrev after : List Event
+  after = es ++ tick mm out ∷ []
+
+  abbrev waitingNow : List ℕ
+  waitingNow = waitingFrom 0 (sentCells m s after l)
+
+  after-run : runFrom m after ≡ apply (runFrom m es) (tick mm out) .master
+  after-run = run-append es (tick mm out ∷ []) m
+
+  pub written : FramesAt m es mm out
+  written =
+      record {
+        steps = waitingNow;
+        ascending = ascends 0 (sentCells m s after l);
+        those = waits-is m s after l;
+        few = few-waiting m s after l;
+        bytes =
+            lent-is (runFrom m es) mm out z
+            ∙ ap (λ (n : Master). framesIn n ++ drop 576 out) (sym after-run)
+            ∙ ap (λ (x : List ℕ). x ++ drop 576 out) (frames-of (runFrom m after) (lasts-last after m l) ∙ frames-filled m s after l)
+            ∙ append-assoc (flatMap (commandOf m) waitingNow) (replicate (576 - 9 * length waitingNow) 0) (drop 576 out);
+        count =
+            counted-is (runFrom m es) mm out z
+            ∙ ap countIn (sym after-run)
+            ∙ count-of (runFrom m after) (lasts-last after m l)
+            ∙ count-waiting m s after l;
+      }
+
+-- ---- frame by frame
+
+module _ (m : Master) (es : List Event) (mm : ℕ) (out : List ℕ) (f : FramesAt m es mm out) where
+  frame-is : (k : ℕ) → k < length (f .steps) → frameAt k (lentAfter (runFrom m es) (tick mm out)) ≡ commandOf m (getD (f .steps) k 0)
+  frame-is k h = ap (frameAt k) (f .bytes) ∙ frame-of (commandOf m) (nine-bytes m) (f .steps) _ k h
+
+  -- EACH REPEAT IS THE SAME COMMAND
+  pub repeats-of : (i : ℕ) → Unanswered m (es ++ tick mm out ∷ []) i
+      → (k : ℕ) × ((k < apply (runFrom m es) (tick mm out) .count) × (frameAt k (lentAfter (runFrom m es) (tick mm out)) ≡ commandOf m i))
+  repeats-of i u =
+      let x = member-at (f .steps) i (f .those i .1 u) in
+      (x .0, (omega (arith, x .1 .0, f .count), frame-is (x .0) (x .1 .0) ∙ ap (commandOf m) (x .1 .1)))
+
+  -- THERE IS NO OTHER FRAME
+  pub no-other-of : (k : ℕ) → k < apply (runFrom m es) (tick mm out) .count
+      → (i : ℕ) × (Unanswered m (es ++ tick mm out ∷ []) i × (frameAt k (lentAfter (runFrom m es) (tick mm out)) ≡ commandOf m i))
+  no-other-of k h =
+      let l : k < length (f .steps) = omega (arith, h, f .count) in
+      let i = getD (f .steps) k 0 in
+      (i, (f .those i .0 (at-member (f .steps) k l), frame-is k l))
+
+-- ---- the tick at which a step leaves
+
+-- the first call after which step i has left
+record First (m : Master) (es : List Event) (i : ℕ) : Type 0 where
+  earlier : List Event
+  e : Event
+  later : List Event
+  split : es ≡ earlier ++ e ∷ later
+  lasts : Lasts m earlier
+  below : runFrom m earlier .playback .sent ≤ i
+  above : i < apply (runFrom m earlier) e .master .playback .sent
+  on : Lasts (apply (runFrom m earlier) e .master) later
+
+find : (es : List Event) (m : Master) (i : ℕ) → Lasts m es → m .playback .sent ≤ i → i < runFrom m es .playback .sent → First m es i
+find [] m i l h k = absurd (omega arith)
+find (e ∷ es) m i l h k = go (decLe (suc i) (apply m e .master .playback .sent)) (λ x. find es (apply m e .master) i (l .1) x k)
+  where
+    go : Dec (i < apply m e .master .playback .sent) → (apply m e .master .playback .sent ≤ i → First (apply m e .master) es i) → First m (e ∷ es) i
+    go (yes a) r = record { earlier = []; e = e; later = es; split = refl; lasts = l .0; below = h; above = a; on = l .1 }
+    go (no a) r =
+        let x = r (omega arith) in
+        record {
+          earlier = e ∷ x .earlier;
+          e = x .e;
+          later = x .later;
+          split = ap (λ (y : List Event). e ∷ y) (x .split);
+          lasts = (l .0, x .lasts);
+          below = x .below;
+          above = x .above;
+          on = x .on;
+        }
+
+abbrev playOf : State → Playback
+playOf (going p x) = p
+playOf (done p) = p
+playOf aborted = blankPlayback
+
+-- what an accepted tick does to the playback, where it lets step i leave
+record Left (m : Master) (mm : ℕ) (out : List ℕ) (i : ℕ) : Type 0 where
+  accepted : apply m (tick mm out) .number ≡ 0
+  none : m .playback .sent ≡ i
+  one : apply m (tick mm out) .master .playback .sent ≡ i + 1
+  cell : sentAt (apply m (tick mm out) .master .playback) i ≡ record { tan = nextTan (m .tan); answer = 0; left = suc (m .playback .ticks) }
+
+module _ (m : Master) (h : Playing m) (i : ℕ) where
+  abbrev Goes : Event → replay.PlaybackEvent → Type 0
+  Goes e x = stepOf (m .sequence) (going (m .playback) (m .tan)) x ≡ going (apply m e .master .playback) (apply m e .master .tan)
+
+  tick-leaves : (mm : ℕ) (out : List ℕ) → Good (m .playback) → Whole (m .sequence) → m .playback .sent ≤ i → i < apply m (tick mm out) .master .playback .sent
+      → Playing (apply m (tick mm out) .master) → Left m mm out i
+  tick-leaves mm out g w below above k =
+      chosen-by (λ x. Goes (tick mm out) x → Left m mm out i) (eqb (apply m (tick mm out) .number) 0) (replay.tick mm) replay.message
+      (λ q e.
+      let x =
+      kept.leaving-tick (m .sequence) w i (m .playback) g mm (m .tan) (accepted-mm m mm out q) below
+      (subst (λ (s : State). i < kept.sentOf s) (sym e) above) in
+      let p : apply m (tick mm out) .master .playback ≡ x .after = ap playOf (sym e ∙ x .now) in
+      record {
+        accepted = eqb-true _ 0 q;
+        none = x .none;
+        one = omega (arith, ap (λ (y : Playback). y .sent) p, x .one);
+        cell = ap (λ (y : Playback). sentAt y i) p ∙ x .cell;
+      })
+      (λ _ e. absurd (omega (arith, ap kept.sentOf e))) (next m h (tick mm out) k)
+
+  answer-leaves : (slot : ℕ) (msg out : List ℕ) → Whole (m .sequence) → m .playback .sent ≤ i → i < apply m (answer slot msg out) .master .playback .sent
+      → Playing (apply m (answer slot msg out) .master) → ⊥
+  answer-leaves slot msg out w below above k =
+      chosen (λ x. Goes (answer slot msg out) x → ⊥) (eqb (apply m (answer slot msg out) .number) 0) (replay.answer slot (replyIn msg)) replay.message
+      (λ e. omega (arith, ap kept.sentOf e, kept.answer-sent (m .sequence) w i (m .playback) (m .tan) slot (replyIn msg)))
+      (λ e. omega (arith, ap kept.sentOf e)) (next m h (answer slot msg out) k)
+
+-- the tick of a step stays beside it
+still-left : (es : List Event) (n : Master) → Lasts n es → (i : ℕ) → i < n .playback .sent
+    → sentAt (runFrom n es .playback) i .left ≡ sentAt (n .playback) i .left
+still-left es n l i h =
+    let z =
+    subst (λ (s : State). kept.Holds i (sentAt (n .playback) i .tan) (sentAt (n .playback) i .left) s) (lasting es n l .0)
+    (kept.holds i (sentAt (n .playback) i .tan) (sentAt (n .playback) i .left) (n .sequence) (seenAll n es) (going (n .playback) (n .tan)) (h, refl, refl)) in
+    z .2
+
+none-yet : (m : Master) → Begins m → m .playback .sent ≡ 0
+unfolding blankPlayback
+none-yet m b = ap (λ (p : Playback). p .sent) (b .blank)
+
+-- STEP i FIRST STANDS IN THE LENT BYTES AT THE TICK AT WHICH IT LEAVES, THE LAST OF THOSE THAT WAIT
+first-of : (m : Master) → (s : Started m) → (es : List Event) → Lasts m es → (i t : ℕ) → LeftAt (runFrom m es) i t → (x : First m es i)
+    → View (runFrom m (x .earlier)) (x .e) → FirstLeaves m es i t
+unfolding written
+first-of m s es l i t h x v = go (x .e) v (x .split) (x .above) (x .on)
+  where
+    go : (e : Event) → View (runFrom m (x .earlier)) e → es ≡ x .earlier ++ e ∷ x .later → i < apply (runFrom m (x .earlier)) e .master .playback .sent
+        → Lasts (apply (runFrom m (x .earlier)) e .master) (x .later) → FirstLeaves m es i t
+    go e (another a q u) split above on = absurd (same (stays (runFrom m (x .earlier)) (lasts-last (x .earlier) m (x .lasts)) e a))
+      where
+        same : Stays (runFrom m (x .earlier)) e (apply (runFrom m (x .earlier)) e .master) → ⊥
+        same (keeps p b c d) = omega (arith, x .below, above, ap (λ (y : Playback). y .sent) c)
+        same (aborts c p) = omega (arith, p, lasts-head (apply (runFrom m (x .earlier)) e .master) (x .later) on)
+    go e (anAnswer slot msg out) split above on =
+        absurd
+        (answer-leaves (runFrom m (x .earlier)) (lasts-last (x .earlier) m (x .lasts)) i slot msg out (whole-at m s (x .earlier) (x .lasts))
+        (x .below) above (lasts-head _ (x .later) on))
+    go e (aTick mm out) split above on =
+        let c = x .earlier in
+        let n = runFrom m c in
+        let r = tick-leaves n (lasts-last c m (x .lasts)) i mm out (good m s c (x .lasts)) (whole-at m s c (x .lasts)) (x .below) above (lasts-head _ (x .later) on) in
+        let a : Lasts m (c ++ tick mm out ∷ []) = lasts-append c (tick mm out ∷ []) m (x .lasts) (lasts-last c m (x .lasts), lasts-head _ (x .later) on) in
+        let k : runFrom m es ≡ runFrom (apply n (tick mm out) .master) (x .later) =
+        ap (runFrom m) split ∙ run-append c (tick mm out ∷ x .later) m in
+        let p : runFrom m (c ++ tick mm out ∷ []) ≡ apply n (tick mm out) .master = run-append c (tick mm out ∷ []) m in
+        let cs = runFrom m (c ++ tick mm out ∷ []) .playback .commands in
+        let one : runFrom m (c ++ tick mm out ∷ []) .playback .sent ≡ suc i = omega (arith, ap (λ (y : Master). y .playback .sent) p, r .one) in
+        let waits : eqb (getD cs i blankSent .answer) answerNone ≡ true =
+        eq-eqb _ _ (ap (λ (y : Master). sentAt (y .playback) i .answer) p ∙ ap (λ (y : Sent). y .answer) (r .cell)) in
+        let g = good m s (c ++ tick mm out ∷ []) a in
+        record {
+          earlier = c;
+          mm = mm;
+          out = out;
+          later = x .later;
+          split = split;
+          lasts = a;
+          accepted = r .accepted;
+          number =
+              omega (
+                arith,
+                h .1,
+                ap (λ (y : Master). sentAt (y .playback) i .left) k,
+                still-left (x .later) (apply n (tick mm out) .master) on i above,
+                ap (λ (y : Sent). y .left) (r .cell),
+                ticks-are m s c (x .lasts),
+              );
+          not-before = λ y. omega (arith, seen-left m s c (x .lasts) i y, r .none);
+          written = written m s c mm out a (r .accepted);
+          others = waitingFrom 0 (take i cs);
+          last = ap (λ (j : ℕ). waitingFrom 0 (take j cs)) one ∙ waiting-last 0 cs i (omega (arith, one, g .cells, g .within)) waits
+              ∙ ap (λ (j : ℕ). waitingFrom 0 (take i cs) ++ j ∷ []) (zero-add i);
+        }
+
+pub first-leaves : (m : Master) → Started m → (es : List Event) → Lasts m es → (i t : ℕ) → LeftAt (runFrom m es) i t → FirstLeaves m es i t
+first-leaves m s es l i t h =
+    let x = find es m i l (omega (arith, none-yet m (begins m s))) (h .0) in
+    first-of m s es l i t h x (view (runFrom m (x .earlier)) (x .e))

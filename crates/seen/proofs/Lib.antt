@@ -1,0 +1,12 @@
+pub mod Tests
+pub mod Reading
+pub mod Starred
+pub mod Bytes
+pub mod Rest
+pub mod Counting
+pub mod Closing
+pub mod Leaving
+pub mod Serving
+pub mod Says
+pub mod Verifying
+pub mod Telling

@@ -1,0 +1,9 @@
+pub mod Words
+pub mod Written
+pub mod Starred
+pub mod Ways
+pub mod Tan
+pub mod Blank
+pub mod AllEnabled
+pub mod Numbers
+pub mod Promises
