@@ -23,10 +23,9 @@ use Rattle.recording.specs.declared.Taken.{Taken}
 use Rattle.recording.specs.declared.Recording.{Recording}
 use Rattle.recording.specs.declared.Heard.{Heard}
 use Rattle.recording.proofs.Cases.{held-count, held-at, by-cases}
-use Rattle.events.proofs.Choices.{either}
+use Rattle.events.proofs.Choices.{either, is-true}
 use Rattle.history.specs.Steps.{Entry, isFinish, isFailure, FirstOf, Standing, wasOneShot, stillOpen, wasDone, wasFailed, standsAs, isOpenBy, isOpenIn, beginnings, isAnyOpen}
 use Rattle.history.specs.Answers.{answerBy, answerAgain, answerTo, errorFrom}
-use Rattle.history.proofs.Lists.{is-true}
 use Rattle.history.proofs.Beginnings.{startIn, First, none-some}
 use Rattle.history.proofs.Held.{Held, found-first, same-step}
 use Rattle.history.proofs.Told.{Told}

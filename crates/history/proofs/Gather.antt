@@ -1,17 +1,13 @@
 -- One call more: what is gathered along a run, and what holds of the calls so far holds with one more.
-use mathlib.Core.Path.{_≡_, refl, sym, ap, subst, _∙_}
+use mathlib.Core.Path.{_≡_, sym, ap, subst, _∙_}
 use mathlib.Core.List.{List, [], _∷_, _++_, append-nil, append-assoc}
-use Rattle.master.specs.declared.Master.{Master}
 use Rattle.master.specs.States.{newMaster}
-use Rattle.events.specs.Events.{Event, apply, runFrom, run}
+use Rattle.events.specs.Events.{Event, apply, run}
+use Rattle.events.proofs.Invariant as invariant
 use Rattle.history.specs.Runs.{gatherFrom, gather}
 
-runs-on : (events : List Event) (e : Event) (m : Master) → runFrom m (events ++ e ∷ []) ≡ apply (runFrom m events) e .master
-runs-on [] e m = refl
-runs-on (x ∷ events) e m = runs-on events e (apply m x .master)
-
 pub run-more : (events : List Event) (e : Event) → run (events ++ e ∷ []) ≡ apply (run events) e .master
-run-more events e = runs-on events e newMaster
+run-more events e = invariant.run-more events e newMaster
 
 module _ {X : Type 0} (f : List Event → Event → X → X) where
   gathers-on :

@@ -19,10 +19,6 @@ use Rattle.history.specs.Steps.{Entry, FirstOf}
 
 -- ---- choices
 
-pub is-true : (b : Bool) → (b ≡ false → ⊥) → b ≡ true
-is-true true h = refl
-is-true false h = absurd (h refl)
-
 pub all-true : (a b : Bool) → a ≡ true → b ≡ true → (a && b) ≡ true
 all-true a b p q = rw (p, q)
 

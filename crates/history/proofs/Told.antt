@@ -30,9 +30,9 @@ use Rattle.recording.proofs.Cases.{held-count, held-at, held-new, error, refuse
 use Rattle.recording.proofs.Steps.{both, start-same, is-begun}
 use Rattle.recording.proofs.Sound.{starts}
 use Rattle.recording.proofs.Records.{after-there, after-first, after-other}
-use Rattle.events.proofs.Choices.{either, is-false}
+use Rattle.events.proofs.Choices.{either, is-false, is-true}
 use Rattle.history.specs.Steps.{Entry, statusIn, isAnswered, isAccepted, isFinish, isFailure, beginnings, isFirst, isFrom, clientOf}
-use Rattle.history.proofs.Lists.{is-true, all-true, none-weaker, still-none, first-now, left-false, right-false, every-two, set-every}
+use Rattle.history.proofs.Lists.{all-true, none-weaker, still-none, first-now, left-false, right-false, every-two, set-every}
 use Rattle.history.proofs.Beginnings.{startIn, First, none-some, begins-none, begins-one, firsts-still}
 use Rattle.history.proofs.Held.{Held, status-few, at-once-is, started-is, grown, found-first, not-yet, answered-else, not-its, held-after}
 
