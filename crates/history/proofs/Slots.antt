@@ -78,7 +78,7 @@ module _ (c : ℕ → Seat) (m : Master) (h : All c m) where
       let k = h .each i in
       record { taken = k .taken; wanted = refl; report = k .report; name = k .name; pool = k .pool }
 
-  -- a report that is taken is one of F.3
+  -- a report that is taken is one of the five
   report-is : (number : ℕ) → eqb (reportFrom number) noReport ≡ false → reportFrom number ≡ number
   unfolding reportFrom
   report-is number =
