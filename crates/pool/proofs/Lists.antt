@@ -1,4 +1,4 @@
--- Lists that are read off a pool and gathered in an array, and the first of a list at which a test holds.
+-- Lists that are read off a pool and gathered in an array, the first of a list at which a test holds, and whether a number is in a list.
 use Prim.Native.Nat.{ℕ, zero, suc, _+_, _-_, _*_, _≤_, _<_}
 use native.Mathlib.Numerals.{add-one}
 use native.Mathlib.Omega.{arith}
@@ -7,13 +7,14 @@ use mathlib.Core.List.{List, [], _∷_, map}
 use mathlib.Core.Bool.{Bool, true, false}
 use lib.ListN.{length, getD, take, drop, set, replicate, length-map, drop-of-length-le}
 use lib.Seq.{drop-cons, drop-drop, drop-set-lt, take-suc, take-suc-set, take-all}
+use borrow.Author.Tests.{eq-eqb, ne-eqb}
 use Rattle.octets.specs.Pick.{pick}
 use Rattle.octets.specs.Octets.{numberAt}
 use Rattle.octets.proofs.Laws.{number-one}
 use Rattle.pool.specs.declared.Verdict.{Verdict}
 use Rattle.pool.specs.Verdicts.{fine, firstFault}
 use Rattle.pool.specs.Fields.{numbersAt}
-use Rattle.pool.specs.StageTwo.{find}
+use Rattle.pool.specs.StageTwo.{find, isIn}
 use Rattle.pool.proofs.Faults.{fault-end, fault-here, fault-next}
 
 -- ---- numbers one after the other
@@ -94,3 +95,18 @@ module _ (f : ℕ → Bool) (l : List ℕ) (d k : ℕ) where
   pub find-next : k < length l → f (getD l k 0) ≡ false → find f (drop k l) d ≡ find f (drop (k + 1) l) d
   unfolding find pick
   find-next h e = rw (add-one, drop-cons l k 0, e)
+
+-- ---- whether n is in a list, from element k on
+
+module _ (n : ℕ) (l : List ℕ) (k : ℕ) where
+  pub in-end : length l ≤ k → isIn n (drop k l) ≡ false
+  unfolding isIn
+  in-end h = ap (isIn n) (drop-of-length-le l h)
+
+  pub in-here : k < length l → getD l k 0 ≡ n → isIn n (drop k l) ≡ true
+  unfolding isIn
+  in-here h e = rw (drop-cons l k 0, eq-eqb _ _ e)
+
+  pub in-next : k < length l → (getD l k 0 ≡ n → ⊥) → isIn n (drop k l) ≡ isIn n (drop (k + 1) l)
+  unfolding isIn
+  in-next h e = rw (add-one, drop-cons l k 0, ne-eqb _ _ e)

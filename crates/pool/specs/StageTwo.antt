@@ -40,6 +40,7 @@ statesListed s ps n = statesOf s (objectOf s ps functionType n)
 
 -- ---- what stood before
 
+-- k is one of a list
 unfoldable pub isIn : ℕ → List ℕ → Bool
 isIn k [] = false
 isIn k (x ∷ xs) = eqb x k || isIn k xs
@@ -57,10 +58,25 @@ firstRepeat seen (k ∷ ks) =
 abbrev pub labelBytes : Label → List ℕ
 labelBytes l = take (l .length) (l .bytes)
 
--- "one of the eleven characters that A.3 forbids": \ " ' ` / : * < > | ?
+-- 02, request 4: "Write the eleven characters as a list in the standard's order": the numbers are those that A.3 prints
+abbrev pub forbidden : List ℕ
+forbidden =
+    0x5C  -- \ backslash
+    ∷ 0x22  -- " quotation mark
+    ∷ 0x27  -- ' apostrophe
+    ∷ 0x60  -- ` grave accent
+    ∷ 0x2F  -- / slash
+    ∷ 0x3A  -- : colon
+    ∷ 0x2A  -- * asterisk
+    ∷ 0x3C  -- < less-than sign
+    ∷ 0x3E  -- > greater-than sign
+    ∷ 0x7C  -- | vertical line
+    ∷ 0x3F  -- ? question mark
+    ∷ []
+
+-- "and test a byte against the list."
 abbrev pub isForbidden : ℕ → Bool
-isForbidden c =
-    eqb c 0x5C || eqb c 0x22 || eqb c 0x27 || eqb c 0x60 || eqb c 0x2F || eqb c 0x3A || eqb c 0x2A || eqb c 0x3C || eqb c 0x3E || eqb c 0x7C || eqb c 0x3F
+isForbidden c = isIn c forbidden
 
 -- "20–7E and A0–FF": no byte is above FF
 abbrev pub isVisible : ℕ → Bool

@@ -7,7 +7,7 @@ ghost use Rattle.pool.specs.Verdicts.{firstOf, firstFault};
 ghost use Rattle.pool.specs.Verdicts as Verdicts;
 ghost use Rattle.pool.specs.Fields.{objectNumber, numbersAt, placesFrom, versionLabel};
 ghost use Rattle.pool.specs.Search.Index.{Indexed};
-ghost use Rattle.pool.specs.StageTwo.{objectOf, idOf, firstRepeat, labelBytes, isForbidden, characterRight, repeatFault, characterFault, absentFault, idsFault, statesAbsent, statesAlike, rulesOf, stageTwo};
+ghost use Rattle.pool.specs.StageTwo.{objectOf, idOf, isIn, firstRepeat, labelBytes, isForbidden, characterRight, repeatFault, characterFault, absentFault, idsFault, statesAbsent, statesAlike, rulesOf, stageTwo};
 use crate::BASE_FIXED;
 use crate::BASE_TYPE;
 use crate::FINE;
@@ -154,21 +154,39 @@ fn numbers_fault(s: &[u8], ps: &[u16]) -> Verdict
     FINE
 }
 
-// The eleven characters that A.3 forbids.
+// The eleven characters that A.3 forbids, in its order.
+const FORBIDDEN: [u8; 11] = [
+    0x5C, // \ backslash
+    0x22, // " quotation mark
+    0x27, // ' apostrophe
+    0x60, // ` grave accent
+    0x2F, // / slash
+    0x3A, // : colon
+    0x2A, // * asterisk
+    0x3C, // < less-than sign
+    0x3E, // > greater-than sign
+    0x7C, // | vertical line
+    0x3F, // ? question mark
+];
+
+// Whether a byte is one of a list.
+fn is_in(c: u8, list: &[u8]) -> bool
+    ensures { λ r. ⌜ r ≡ isIn c (now (list .entry)) ⌝ }
+{
+    let mut k: usize = 0;
+    while k < list.len() {
+        if list[k] == c {
+            return true;
+        }
+        k += 1;
+    }
+    false
+}
+
 fn is_forbidden(c: u8) -> bool
     ensures { λ r. ⌜ r ≡ isForbidden c ⌝ }
 {
-    (c == 0x5C)
-        | (c == 0x22)
-        | (c == 0x27)
-        | (c == 0x60)
-        | (c == 0x2F)
-        | (c == 0x3A)
-        | (c == 0x2A)
-        | (c == 0x3C)
-        | (c == 0x3E)
-        | (c == 0x7C)
-        | (c == 0x3F)
+    is_in(c, &FORBIDDEN)
 }
 
 fn character_right(c: u8) -> bool
