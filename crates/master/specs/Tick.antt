@@ -10,7 +10,7 @@ use Rattle.sequence.specs.Sequence.{lastTick}
 use Rattle.recording.specs.Indication as recording
 use Rattle.recording.specs.declared.Recording.{Recording}
 use Rattle.playback.specs.Tick as playback
-use Rattle.playback.specs.{Frames.framesOf, Frames.waitingOf, declared.Ticked.Ticked, State.goesOn}
+use Rattle.playback.specs.{Frames.framesOf, Frames.frameCountOf, declared.Ticked.Ticked, State.goesOn}
 use Rattle.master.specs.{declared.Master.Master, Call.Call}
 use Rattle.master.specs.States.{ready, abort, isInactive, isRecording, isPlaying, withRecording, withPlayback, ended, settled}
 
@@ -30,16 +30,16 @@ playbackTicked m mm =
 unfoldable pub ticked : Master → ℕ → Master
 ticked m mm = pick (isRecording m) (recordingTicked m mm) (pick (isPlaying m) (playbackTicked m mm) (settled m))
 
--- "The frame count is the number of sent, unanswered steps after the tick. An aborting tick, or one in another active state, writes 576 zero bytes, count
--- 0.": of the master after the tick
+-- "An aborting tick, or one in another active state, writes 576 zero bytes, count 0.": of the master after the tick
 unfoldable pub noFrames : List ℕ
 noFrames = replicate 576 0
 
 unfoldable pub framesIn : Master → List ℕ
 framesIn m = pick (isPlaying m) (framesOf (m .playback) (m .sequence .steps)) noFrames
 
+-- "The frame count is the number of sent, unanswered steps after the tick."
 unfoldable pub countIn : Master → ℕ
-countIn m = pick (isPlaying m) (waitingOf (m .playback .sent) (m .playback .commands)) 0
+countIn m = pick (isPlaying m) (frameCountOf (m .playback .ticks) (m .playback .sent) (m .playback .commands)) 0
 
 unfoldable pub tickCall : Master → ℕ → List ℕ → Call
 tickCall m mm out = record {

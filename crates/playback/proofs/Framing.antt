@@ -1,4 +1,4 @@
--- The frames of a tick: their bytes are those of E.6, they fill 576 bytes, and they are as many as are sent and unanswered.
+-- The frames of a tick: their bytes are those of E.6, they fill 576 bytes, and they are no more than what was sent.
 use Prim.Native.Nat.{ℕ, suc, _/_, _%_, _≤_, _<_}
 use mathlib.Core.Path.{_≡_, sym, ap, _∙_}
 use mathlib.Core.Bool.{Bool, true, false, cond}
@@ -12,7 +12,7 @@ use Rattle.message.specs.Messages.{octetOf, messageBytes}
 use Rattle.message.specs.declared.Message.the-variants.{Command}
 use Rattle.sequence.specs.declared.Step.{Step}
 use Rattle.playback.specs.declared.Sent.{Sent}
-use Rattle.playback.specs.Frames.{frameOf, isWritten, waiting, filledOf, waitingOf, framesOf}
+use Rattle.playback.specs.Frames.{frameOf, isWritten, frameCount, filledOf, frameCountOf, framesOf}
 use Rattle.playback.specs.Promises.{orderOf, Framing}
 use Rattle.playback.proofs.Fill.{none, length-filled}
 
@@ -24,18 +24,18 @@ command s tan h =
     let c : s .value / 65536 / 256 ≡ s .value / 16777216 = omega arith in
     rw (a, b, c)
 
-pub waiting-few : (l : List Sent) → waiting l ≤ length l
-waiting-few [] = omega arith
-waiting-few (c ∷ l) = go (isWritten c) (waiting-few l)
+pub count-few : (test : Sent → Bool) (l : List Sent) → frameCount test l ≤ length l
+count-few test [] = omega arith
+count-few test (c ∷ l) = go (test c) (count-few test l)
   where
-    go : (t : Bool) → waiting l ≤ length l → cond t (suc (waiting l)) (waiting l) ≤ suc (length l)
+    go : (t : Bool) → frameCount test l ≤ length l → cond t (suc (frameCount test l)) (frameCount test l) ≤ suc (length l)
     go true h = omega arith
     go false h = omega arith
 
-few : (n : ℕ) (l : List Sent) → (waitingOf n l ≤ length l) × (waitingOf n l ≤ n)
-unfolding waitingOf
-few n l =
-    let a = waiting-few (take n l) in
+few : (ticks n : ℕ) (l : List Sent) → (frameCountOf ticks n l ≤ length l) × (frameCountOf ticks n l ≤ n)
+unfolding frameCountOf
+few ticks n l =
+    let a = count-few (isWritten ticks) (take n l) in
     let b = length-take n l in
     (omega arith, omega arith)
 
@@ -43,8 +43,8 @@ pub framing : Framing
 unfolding framesOf
 framing = record {
   command = command;
-  bytes = λ p steps. length-filled steps (p .commands) (p .sent);
-  few = λ p e. let h = few (p .sent) (p .commands) .0 in omega arith;
-  sent = λ p. few (p .sent) (p .commands) .1;
-  none = λ p steps e. ap (λ (n : ℕ). filledOf n steps (p .commands)) e ∙ sym (none steps (p .commands));
+  bytes = λ p steps. length-filled (p .ticks) steps (p .commands) (p .sent);
+  few = λ p e. let h = few (p .ticks) (p .sent) (p .commands) .0 in omega arith;
+  sent = λ p. few (p .ticks) (p .sent) (p .commands) .1;
+  none = λ p steps e. ap (λ (n : ℕ). filledOf (p .ticks) n steps (p .commands)) e ∙ sym (none (p .ticks) steps (p .commands));
 }

@@ -9,7 +9,7 @@ use Rattle.message.specs.{declared.Reply.Reply, declared.Status.the-variants.St
 use Rattle.arrays.specs.Arrays.{padTo}
 use Rattle.client.specs.{Clients.slotCount, Records.blankRecord}
 use Rattle.sequence.specs.{Sequence.mostSteps, Sequence.blankStep, declared.Step.Step, declared.Sequence.Sequence}
-use Rattle.playback.specs.{declared.Sent.Sent, declared.Ticked.Ticked, Tick.tickOf, Frames.waitingOf, Answer.answeredOf}
+use Rattle.playback.specs.{declared.Sent.Sent, declared.Ticked.Ticked, Tick.tickOf, Frames.frameCountOf, Answer.answeredOf}
 use Rattle.playback.specs.State.{goesOn, toAbort, blankPlayback}
 
 -- function 5, state 2, value 240 of slot 1, with a mark in ticks, or in millimetres where distance is 1
@@ -50,4 +50,4 @@ pub record Cases : Type 0 where
   pub too-late : played (sequenceWith (marked 0 0 ∷ [])) (replicate 17 0) .end ≡ toAbort
   -- at tick 16 it goes on, and the step is still written
   pub goes-on : played (sequenceWith (marked 0 0 ∷ [])) (replicate 16 0) .end ≡ goesOn
-  pub waits : let t = played (sequenceWith (marked 0 0 ∷ [])) (replicate 16 0) in waitingOf (t .playback .sent) (t .playback .commands) ≡ 1
+  pub waits : let t = played (sequenceWith (marked 0 0 ∷ [])) (replicate 16 0) in frameCountOf (t .playback .ticks) (t .playback .sent) (t .playback .commands) ≡ 1

@@ -1,6 +1,6 @@
 -- 01, "Verification and playback", the frames of a tick: "then each sent, unanswered step is written in one frame, oldest first. A tick fills a frame
--- buffer of 576 bytes, nine to a frame: slot, then the eight of E.6; the rest are 00. Bytes past 576 stay. The frame count is the number of sent,
--- unanswered steps after the tick."
+-- buffer of 576 bytes, nine to a frame: slot, then the eight of E.6; the rest are 00. Bytes past 576 stay." The frame
+-- count is the number of sent, unanswered steps after the tick."
 use Prim.Native.Nat.{ℕ, suc, _/_, _%_}
 use mathlib.Core.Bool.{Bool, cond}
 use mathlib.Core.List.{List, [], _∷_, _++_}
@@ -15,28 +15,28 @@ frameOf s tan =
     s .slot ∷ 0x33 ∷ s .function ∷ s .state ∷ tan
     ∷ s .value % 256 ∷ s .value / 256 % 256 ∷ s .value / 65536 % 256 ∷ s .value / 16777216 % 256 ∷ []
 
--- what was sent is written at this tick: "each sent, unanswered step is written"
-abbrev pub isWritten : Sent → Bool
-isWritten c = isUnanswered c
+-- what was sent is written at this tick: "each sent, unanswered step is written", at every tick
+abbrev pub isWritten : ℕ → Sent → Bool
+isWritten ticks c = isUnanswered c
 
--- "written in one frame, oldest first": of what was sent and its steps, in order
-abbrev pub framed : List Sent → List Step → List ℕ
-framed [] ss = []
-framed (c ∷ cs) [] = []
-framed (c ∷ cs) (s ∷ ss) = cond (isWritten c) (frameOf s (c .tan) ++ framed cs ss) (framed cs ss)
+-- "written in one frame, oldest first": of what was sent and its steps, in order, those of which the test holds
+abbrev pub framed : (Sent → Bool) → List Sent → List Step → List ℕ
+framed test [] ss = []
+framed test (c ∷ cs) [] = []
+framed test (c ∷ cs) (s ∷ ss) = cond (test c) (frameOf s (c .tan) ++ framed test cs ss) (framed test cs ss)
 
 -- how many they are
-abbrev pub waiting : List Sent → ℕ
-waiting [] = 0
-waiting (c ∷ cs) = cond (isWritten c) (suc (waiting cs)) (waiting cs)
+abbrev pub frameCount : (Sent → Bool) → List Sent → ℕ
+frameCount test [] = 0
+frameCount test (c ∷ cs) = cond (test c) (suc (frameCount test cs)) (frameCount test cs)
 
 -- "a frame buffer of 576 bytes, nine to a frame .. the rest are 00"
-unfoldable pub filledOf : ℕ → List Step → List Sent → List ℕ
-filledOf sent steps commands = padTo 0 576 (framed (take sent commands) steps)
+unfoldable pub filledOf : ℕ → ℕ → List Step → List Sent → List ℕ
+filledOf ticks sent steps commands = padTo 0 576 (framed (isWritten ticks) (take sent commands) steps)
 
 -- "The frame count is the number of sent, unanswered steps after the tick."
-unfoldable pub waitingOf : ℕ → List Sent → ℕ
-waitingOf sent commands = waiting (take sent commands)
+unfoldable pub frameCountOf : ℕ → ℕ → List Sent → ℕ
+frameCountOf ticks sent commands = frameCount (isWritten ticks) (take sent commands)
 
 unfoldable pub framesOf : Playback → List Step → List ℕ
-framesOf p steps = filledOf (p .sent) steps (p .commands)
+framesOf p steps = filledOf (p .ticks) (p .sent) steps (p .commands)

@@ -16,7 +16,7 @@ use Rattle.playback.specs.{declared.Playback.Playback, Answer.findAnswer
 use Rattle.playback.specs.State.{answerDone, goesOn, toAbort, blankSent, blankPlayback}
 use Rattle.playback.specs.Verification.{Check, namesAgree, sameLabel, isListed, isInPool, checksOf, verifyOf}
 use Rattle.playback.specs.Tick.{isDue, doesLeave, tickOf}
-use Rattle.playback.specs.Frames.{frameOf, waitingOf, framesOf}
+use Rattle.playback.specs.Frames.{frameOf, frameCountOf, framesOf}
 
 -- ---- verification
 
@@ -93,6 +93,6 @@ pub record Framing : Type 0 where
   -- "slot, then the eight of E.6", as they are written
   pub command : (s : Step) (tan : ℕ) → s .state < 64 → frameOf s tan ≡ s .slot ∷ messageBytes (Command (orderOf s tan)) blank []
   pub bytes : (p : Playback) (steps : List Step) → length (framesOf p steps) ≡ 576
-  pub few : (p : Playback) → length (p .commands) ≡ mostSteps → waitingOf (p .sent) (p .commands) ≤ mostSteps
-  pub sent : (p : Playback) → waitingOf (p .sent) (p .commands) ≤ p .sent
+  pub few : (p : Playback) → length (p .commands) ≡ mostSteps → frameCountOf (p .ticks) (p .sent) (p .commands) ≤ mostSteps
+  pub sent : (p : Playback) → frameCountOf (p .ticks) (p .sent) (p .commands) ≤ p .sent
   pub none : (p : Playback) (steps : List Step) → p .sent ≡ 0 → framesOf p steps ≡ replicate 576 0

@@ -3,7 +3,7 @@ ghost use mathlib.Core.Path.{_≡_};
 ghost use Prim.Native.Nat.{_+_, _≤_, _%_};
 ghost use lib.ListN.{replicate};
 ghost use lib.Seq.{sets};
-ghost use Rattle.playback.specs.Frames.{frameOf, isWritten, filledOf, waitingOf};
+ghost use Rattle.playback.specs.Frames.{frameOf, isWritten, filledOf, frameCountOf};
 use crate::ANSWER_NONE;
 use crate::Sent;
 use sequence::MOST_STEPS;
@@ -16,8 +16,8 @@ fn low(x: u32) -> u8
 }
 
 // What was sent is written at this tick.
-fn is_written(c: Sent) -> bool
-    ensures { λ r. ⌜ r ≡ isWritten c ⌝ }
+fn is_written(c: Sent, ticks: u32) -> bool
+    ensures { λ r. ⌜ r ≡ isWritten ticks c ⌝ }
 {
     c.answer == ANSWER_NONE
 }
@@ -38,16 +38,17 @@ fn put_frame(out: &mut [u8; 576], at: usize, step: Step, tan: u8)
     out[at + 8] = low(step.value / 16777216);
 }
 
-// The frames of what is written, one after the other, into a buffer of zeros; how many they are.
+// The frames of what is written at this tick, one after the other, into a buffer of zeros; how many they are.
 pub fn fill(
+    ticks: u32,
     commands: [Sent; MOST_STEPS],
     sent: usize,
     steps: [Step; MOST_STEPS],
     out: &mut [u8; 576],
 ) -> u32
     requires { ⌜ now out ≡ replicate 576 0 ⌝ }
-    ensures { λ r. ⌜ r ≡ waitingOf sent commands ⌝ }
-    ensures { λ _. ⌜ now (out .exit) ≡ filledOf sent steps commands ⌝ }
+    ensures { λ r. ⌜ r ≡ frameCountOf ticks sent commands ⌝ }
+    ensures { λ _. ⌜ now (out .exit) ≡ filledOf ticks sent steps commands ⌝ }
 {
     let mut n: usize = 0;
     let mut i: usize = 0;
@@ -56,7 +57,7 @@ pub fn fill(
             return n as u32;
         }
         let c = commands[i];
-        if !is_written(c) {
+        if !is_written(c, ticks) {
             i += 1;
             continue;
         }

@@ -6,7 +6,7 @@ ghost use lib.ListN.{length, drop};
 ghost use Rattle.playback.specs.State.{blankSent, blankPlayback};
 ghost use Rattle.playback.specs.Verification.{verifyOf};
 ghost use Rattle.playback.specs.Tick.{isLate, someLate, doesStop, isDue, doesLeave, nextTan, countedPlayback, afterLeaving, tickOf};
-ghost use Rattle.playback.specs.Frames.{framesOf, waitingOf};
+ghost use Rattle.playback.specs.Frames.{framesOf, frameCountOf};
 ghost use Rattle.playback.specs.Answer.{isAllDone, withAnswer, answeredOf, hasFunction};
 ghost use Rattle.playback.specs.Promises.{Verifies, Agrees, Changes, Framing};
 ghost use Rattle.playback.specs.Cases.{Cases};
@@ -228,16 +228,16 @@ impl Playback {
 
 // ---- the frames of a tick
 
-// The frames of the sent, unanswered steps, 576 bytes of the lent buffer; how many they are.
+// The frames of the steps that are written at the playback's tick, 576 bytes of the lent buffer; how many they are.
 pub fn frames(playback: Playback, sequence: Sequence, out: &mut [u8]) -> u32
     requires { ⌜ 576 ≤ length (now out) ⌝ }
-    ensures { λ r. ⌜ r ≡ waitingOf (playback .sent) (playback .commands) ⌝ }
+    ensures { λ r. ⌜ r ≡ frameCountOf (playback .ticks) (playback .sent) (playback .commands) ⌝ }
     ensures { λ _. ⌜ now (out .exit) ≡ framesOf playback (sequence .steps) ++ drop 576 (now (out .entry)) ⌝ }
 {
     let commands = playback.commands;
     let steps = sequence.steps;
     let mut filled = [0u8; 576];
-    let count = buffer::fill(commands, playback.sent, steps, &mut filled);
+    let count = buffer::fill(playback.ticks, commands, playback.sent, steps, &mut filled);
     bytes::copy(&filled, out);
     count
 }

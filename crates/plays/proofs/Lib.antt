@@ -4,7 +4,7 @@ pub mod Bytes
 pub mod Commands
 pub mod Theorems
 pub mod Replies
-pub mod Waiting
+pub mod Numbering
 pub mod Written
 pub mod LastAnswers
 pub mod Causes

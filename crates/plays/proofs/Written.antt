@@ -1,6 +1,6 @@
--- The lent bytes after a tick: the commands of the steps that wait, one after the other; and the tick at which a step first stands there.
+-- The lent bytes after a tick: the commands of the steps that are written, one after the other; and the tick at which a step first stands there.
 use mathlib.Core.Path.{_≡_, refl, sym, ap, _∙_, subst}
-use mathlib.Core.Bool.{true}
+use mathlib.Core.Bool.{Bool, true}
 use mathlib.Core.Logic.{_↔_}
 use mathlib.Core.List.{List, [], _∷_, _++_, flatMap, append-assoc}
 use Prim.Native.Nat.{ℕ, suc, _+_, _-_, _*_, _≤_, _<_}
@@ -18,9 +18,9 @@ use Rattle.playback.specs.declared.Sent.{Sent}
 use Rattle.playback.specs.declared.Playback.{Playback}
 use Rattle.playback.specs.State.{answerNone, blankSent, blankPlayback}
 use Rattle.playback.specs.Tick.{nextTan}
-use Rattle.playback.specs.Frames.{frameOf, framed, filledOf, framesOf, waitingOf}
+use Rattle.playback.specs.Frames.{frameOf, isWritten, framed, filledOf, framesOf, frameCountOf}
 use Rattle.playback.proofs.Fill.{nine}
-use Rattle.playback.proofs.Framing.{waiting-few}
+use Rattle.playback.proofs.Framing.{count-few}
 use Rattle.master.specs.declared.Master.{Master}
 use Rattle.master.specs.States as states
 use Rattle.master.specs.Messages.{replyIn}
@@ -39,7 +39,7 @@ use Rattle.plays.proofs.Runs.{seenAll, whole-at, accepted-mm, run-appen
 use Rattle.plays.proofs.Commands.{command-is, nine-bytes}
 use Rattle.plays.proofs.Theorems.{ticks-are, good, own-tan, left-seen, seen-left, is-step}
 use Rattle.plays.proofs.Replies.{next, replies}
-use Rattle.plays.proofs.Waiting.{waitingFrom, how-many, ascends, member-waits, waits-member, waiting-last, frames-are, pad-is, frame-of, member-at, at-member}
+use Rattle.plays.proofs.Numbering.{numbersFrom, how-many, ascends, member-numbered, numbered-member, last-number, frames-are, pad-is, frame-of, member-at, at-member}
 
 -- ---- an accepted tick writes and counts the frames of the master after it
 
@@ -57,7 +57,7 @@ frames-of : (n : Master) → Playing n → framesIn n ≡ framesOf (n .playback)
 unfolding framesIn
 frames-of n h = pick-true _ _ _ (eq-eqb (n .state) states.playback h)
 
-count-of : (n : Master) → Playing n → countIn n ≡ waitingOf (n .playback .sent) (n .playback .commands)
+count-of : (n : Master) → Playing n → countIn n ≡ frameCountOf (n .playback .ticks) (n .playback .sent) (n .playback .commands)
 unfolding countIn
 count-of n h = pick-true _ _ _ (eq-eqb (n .state) states.playback h)
 
@@ -72,7 +72,7 @@ no-frames m mm out z h =
     let n = none-of (apply m (tick mm out) .master) h in
     (lent-is m mm out z ∙ ap (λ (l : List ℕ). l ++ drop 576 out) (n .0), counted-is m mm out z ∙ n .1)
 
--- ---- the steps that wait
+-- ---- the steps that are written
 
 module _ (m : Master) (s : Started m) (es : List Event) (l : Lasts m es) where
   abbrev sentCells : List Sent
@@ -84,25 +84,32 @@ module _ (m : Master) (s : Started m) (es : List Event) (l : Lasts m es) where
   at-cell : (i : ℕ) → i < runFrom m es .playback .sent → getD sentCells i blankSent ≡ sentAt (runFrom m es .playback) i
   at-cell i h = getD-take (runFrom m es .playback .sent) (runFrom m es .playback .commands) i blankSent h
 
-  waits-is : (i : ℕ) → Member i (waitingFrom 0 sentCells) ↔ Unanswered m es i
+  -- the numbers of the steps that are written
+  abbrev isNow : Sent → Bool
+  isNow = isWritten (runFrom m es .playback .ticks)
+
+  abbrev numbers : List ℕ
+  numbers = numbersFrom isNow 0 sentCells
+
+  waits-is : (i : ℕ) → Member i numbers ↔ Unanswered m es i
   waits-is i = (to, from)
     where
-      to : Member i (waitingFrom 0 sentCells) → Unanswered m es i
+      to : Member i numbers → Unanswered m es i
       to h =
-          let w = member-waits 0 sentCells i h in
+          let w = member-numbered isNow 0 sentCells i h in
           let e : i ≡ w .cell = omega (arith, w .is) in
           let k : i < runFrom m es .playback .sent = omega (arith, w .within, how-long) in
           let a : sentAt (runFrom m es .playback) i .answer ≡ answerNone =
-          ap (λ (c : Sent). c .answer) (sym (at-cell i k)) ∙ ap (λ (j : ℕ). getD sentCells j blankSent .answer) e ∙ eqb-true _ _ (w .waits) in
+          ap (λ (c : Sent). c .answer) (sym (at-cell i k)) ∙ ap (λ (j : ℕ). getD sentCells j blankSent .answer) e ∙ eqb-true _ _ (w .holds) in
           (left-seen m s es l i k, λ r. replies m s es l i .1 r .1 a)
 
-      from : Unanswered m es i → Member i (waitingFrom 0 sentCells)
+      from : Unanswered m es i → Member i numbers
       from h =
           let k = seen-left m s es l i (h .0) in
           let a : eqb (sentAt (runFrom m es .playback) i .answer) answerNone ≡ true =
           either _ (λ t. t) (λ f. absurd (h .1 (replies m s es l i .0 (k, eqb-false _ _ f)))) in
-          subst (λ (j : ℕ). Member j (waitingFrom 0 sentCells)) (zero-add i)
-          (waits-member 0 sentCells i (omega (arith, k, how-long)) (ap (λ (c : Sent). eqb (c .answer) answerNone) (at-cell i k) ∙ a))
+          subst (λ (j : ℕ). Member j numbers) (zero-add i)
+          (numbered-member isNow 0 sentCells i (omega (arith, k, how-long)) (ap (λ (c : Sent). eqb (c .answer) answerNone) (at-cell i k) ∙ a))
 
   own-frame : (i : ℕ) → i < length sentCells → frameOf (getD (runFrom m es .sequence .steps) i blankStep) (getD sentCells i blankSent .tan) ≡ commandOf m (0 + i)
   own-frame i h =
@@ -112,26 +119,26 @@ module _ (m : Master) (s : Started m) (es : List Event) (l : Lasts m es) where
       ∙ command-is m s i (is-step m es i (left-seen m s es l i k))
       ∙ ap (commandOf m) (sym (zero-add i))
 
-  few-waiting : length (waitingFrom 0 sentCells) ≤ 64
-  few-waiting = omega (arith, how-many 0 sentCells, waiting-few sentCells, how-long, good m s es l .within)
+  few-numbers : length numbers ≤ 64
+  few-numbers = omega (arith, how-many isNow 0 sentCells, count-few isNow sentCells, how-long, good m s es l .within)
 
   frames-filled : framesOf (runFrom m es .playback) (runFrom m es .sequence .steps)
-      ≡ flatMap (commandOf m) (waitingFrom 0 sentCells) ++ replicate (576 - 9 * length (waitingFrom 0 sentCells)) 0
+      ≡ flatMap (commandOf m) numbers ++ replicate (576 - 9 * length numbers) 0
   unfolding framesOf filledOf
   frames-filled =
       let ss = runFrom m es .sequence .steps in
       let g = good m s es l in
       let whole : length ss ≡ 64 = whole-at m s es l in
       let short : length sentCells ≤ length ss = omega (arith, how-long, g .within, whole) in
-      let n = nine sentCells ss short in
-      let q : 576 - length (framed sentCells ss) ≡ 576 - 9 * length (waitingFrom 0 sentCells) = omega (arith, n, how-many 0 sentCells) in
-      pad-is 576 (framed sentCells ss) (omega (arith, n, how-many 0 sentCells, few-waiting))
-      ∙ ap (λ (k : ℕ). framed sentCells ss ++ replicate k 0) q
-      ∙ ap (λ (x : List ℕ). x ++ replicate (576 - 9 * length (waitingFrom 0 sentCells)) 0) (frames-are (commandOf m) 0 sentCells ss short own-frame)
+      let n = nine isNow sentCells ss short in
+      let q : 576 - length (framed isNow sentCells ss) ≡ 576 - 9 * length numbers = omega (arith, n, how-many isNow 0 sentCells) in
+      pad-is 576 (framed isNow sentCells ss) (omega (arith, n, how-many isNow 0 sentCells, few-numbers))
+      ∙ ap (λ (k : ℕ). framed isNow sentCells ss ++ replicate k 0) q
+      ∙ ap (λ (x : List ℕ). x ++ replicate (576 - 9 * length numbers) 0) (frames-are isNow (commandOf m) 0 sentCells ss short own-frame)
 
-  count-waiting : waitingOf (runFrom m es .playback .sent) (runFrom m es .playback .commands) ≡ length (waitingFrom 0 sentCells)
-  unfolding waitingOf
-  count-waiting = sym (how-many 0 sentCells)
+  count-numbers : frameCountOf (runFrom m es .playback .ticks) (runFrom m es .playback .sent) (runFrom m es .playback .commands) ≡ length numbers
+  unfolding frameCountOf
+  count-numbers = sym (how-many isNow 0 sentCells)
 
 -- WHAT A TICK WRITES
 module _ (m : Master) (s : Started m) (es : List Event) (mm : ℕ) (out : List ℕ) (l : Lasts m (es ++ tick mm out ∷ []))
@@ -139,8 +146,8 @@ module _ (m : Master) (s : Started m) (es : List Event) (mm : ℕ) (out : List �
   abbrev after : List Event
   after = es ++ tick mm out ∷ []
 
-  abbrev waitingNow : List ℕ
-  waitingNow = waitingFrom 0 (sentCells m s after l)
+  abbrev numbersNow : List ℕ
+  numbersNow = numbers m s after l
 
   after-run : runFrom m after ≡ apply (runFrom m es) (tick mm out) .master
   after-run = run-append es (tick mm out ∷ []) m
@@ -148,20 +155,20 @@ module _ (m : Master) (s : Started m) (es : List Event) (mm : ℕ) (out : List �
   pub written : FramesAt m es mm out
   written =
       record {
-        steps = waitingNow;
-        ascending = ascends 0 (sentCells m s after l);
+        steps = numbersNow;
+        ascending = ascends (isNow m s after l) 0 (sentCells m s after l);
         those = waits-is m s after l;
-        few = few-waiting m s after l;
+        few = few-numbers m s after l;
         bytes =
             lent-is (runFrom m es) mm out z
             ∙ ap (λ (n : Master). framesIn n ++ drop 576 out) (sym after-run)
             ∙ ap (λ (x : List ℕ). x ++ drop 576 out) (frames-of (runFrom m after) (lasts-last after m l) ∙ frames-filled m s after l)
-            ∙ append-assoc (flatMap (commandOf m) waitingNow) (replicate (576 - 9 * length waitingNow) 0) (drop 576 out);
+            ∙ append-assoc (flatMap (commandOf m) numbersNow) (replicate (576 - 9 * length numbersNow) 0) (drop 576 out);
         count =
             counted-is (runFrom m es) mm out z
             ∙ ap countIn (sym after-run)
             ∙ count-of (runFrom m after) (lasts-last after m l)
-            ∙ count-waiting m s after l;
+            ∙ count-numbers m s after l;
       }
 
 -- ---- frame by frame
@@ -270,7 +277,7 @@ none-yet : (m : Master) → Begins m → m .playback .sent ≡ 0
 unfolding blankPlayback
 none-yet m b = ap (λ (p : Playback). p .sent) (b .blank)
 
--- STEP i FIRST STANDS IN THE LENT BYTES AT THE TICK AT WHICH IT LEAVES, THE LAST OF THOSE THAT WAIT
+-- STEP i FIRST STANDS IN THE LENT BYTES AT THE TICK AT WHICH IT LEAVES, THE LAST OF THOSE THAT ARE WRITTEN
 first-of : (m : Master) → (s : Started m) → (es : List Event) → Lasts m es → (i t : ℕ) → LeftAt (runFrom m es) i t → (x : First m es i)
     → View (runFrom m (x .earlier)) (x .e) → FirstLeaves m es i t
 unfolding written
@@ -297,6 +304,7 @@ first-of m s es l i t h x v = go (x .e) v (x .split) (x .above) (x .on)
         let p : runFrom m (c ++ tick mm out ∷ []) ≡ apply n (tick mm out) .master = run-append c (tick mm out ∷ []) m in
         let cs = runFrom m (c ++ tick mm out ∷ []) .playback .commands in
         let one : runFrom m (c ++ tick mm out ∷ []) .playback .sent ≡ suc i = omega (arith, ap (λ (y : Master). y .playback .sent) p, r .one) in
+        let now : Sent → Bool = isWritten (runFrom m (c ++ tick mm out ∷ []) .playback .ticks) in
         let waits : eqb (getD cs i blankSent .answer) answerNone ≡ true =
         eq-eqb _ _ (ap (λ (y : Master). sentAt (y .playback) i .answer) p ∙ ap (λ (y : Sent). y .answer) (r .cell)) in
         let g = good m s (c ++ tick mm out ∷ []) a in
@@ -319,9 +327,9 @@ first-of m s es l i t h x v = go (x .e) v (x .split) (x .above) (x .on)
               );
           not-before = λ y. omega (arith, seen-left m s c (x .lasts) i y, r .none);
           written = written m s c mm out a (r .accepted);
-          others = waitingFrom 0 (take i cs);
-          last = ap (λ (j : ℕ). waitingFrom 0 (take j cs)) one ∙ waiting-last 0 cs i (omega (arith, one, g .cells, g .within)) waits
-              ∙ ap (λ (j : ℕ). waitingFrom 0 (take i cs) ++ j ∷ []) (zero-add i);
+          others = numbersFrom now 0 (take i cs);
+          last = ap (λ (j : ℕ). numbersFrom now 0 (take j cs)) one ∙ last-number now 0 cs i (omega (arith, one, g .cells, g .within)) waits
+              ∙ ap (λ (j : ℕ). numbersFrom now 0 (take i cs) ++ j ∷ []) (zero-add i);
         }
 
 pub first-leaves : (m : Master) → Started m → (es : List Event) → Lasts m es → (i t : ℕ) → LeftAt (runFrom m es) i t → FirstLeaves m es i t

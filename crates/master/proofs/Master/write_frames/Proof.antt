@@ -3,7 +3,7 @@ use borrow.Author.Tests.{eq-eqb, ne-eqb}
 use mathlib.Core.Path.{_∙_}
 use Rattle.octets.specs.Pick.{pick}
 use Rattle.master.specs.Tick.{framesIn, countIn}
-use Rattle.master.proofs.Frames.{no-frames, none-waiting}
+use Rattle.master.proofs.Frames.{no-frames, none-counted}
 use borrow.Author.Needs.{needs}
 use Rattle.master.proofs.Master.write_frames.Statement.{statement}
 use Rattle.master.proofs.Master.write_frames.Tie as tie
@@ -16,7 +16,7 @@ returns c =
     let at-if1 = at-blank-playback .before in
     let at-args = at-if1 .before .before .before .before in
     let e = ne-eqb _ _ (at-if1 .if1 .taken) in (
-      at-frames .frames .ensures .0 ∙ rw (e, at-blank-playback .blank-playback .ensures) none-waiting,
+      at-frames .frames .ensures .0 ∙ rw (e, at-blank-playback .blank-playback .ensures) none-counted,
       rw (e, ← no-frames (at-args .args .self .sequence .steps), ← at-blank-playback .blank-playback .ensures) (at-frames .frames .ensures .1),
     )
 

@@ -7,29 +7,29 @@ use native.Mathlib.Omega.{arith}
 use lib.ListN.{length}
 use Rattle.sequence.specs.declared.Step.{Step}
 use Rattle.playback.specs.declared.Sent.{Sent}
-use Rattle.playback.specs.Frames.{filledOf, waitingOf}
+use Rattle.playback.specs.Frames.{filledOf, frameCountOf}
 use Rattle.octets.proofs.Tests.{denied, granted}
-use Rattle.playback.proofs.Fill.{none, none-waiting, skips, skips-waiting, counts, stores, full, full-waiting}
+use Rattle.playback.proofs.Fill.{none, none-counted, skips, skips-count, counts, stores, full, full-count}
 use Rattle.playback.proofs.buffer.fill.Statement.{statement}
 use Rattle.playback.proofs.buffer.fill.Tie as tie
 
-record Filling (steps : List Step) (commands : List Sent) (sent i n : ℕ) (out : List ℕ) : Type 0 where
+record Filling (steps : List Step) (commands : List Sent) (ticks sent i n : ℕ) (out : List ℕ) : Type 0 where
   all-steps : length steps ≡ 64
   all-sent : length commands ≡ 64
   within : i ≤ 64
   early : i ≤ sent
   few : n ≤ i
-  count : n ≡ waitingOf i commands
-  bytes : out ≡ filledOf i steps commands
+  count : n ≡ frameCountOf ticks i commands
+  bytes : out ≡ filledOf ticks i steps commands
 
 abbrev Inv-loop : tie.InvT-loop
-Inv-loop sent out₀ commands steps n₀ i₀ out n i = Filling steps commands sent i n out
+Inv-loop ticks sent out₀ commands steps n₀ i₀ out n i = Filling steps commands ticks sent i n out
 
 abbrev μ-loop : tie.MeasureT-loop
-μ-loop sent out₀ commands steps n₀ i₀ out n i = 64 - i
+μ-loop ticks sent out₀ commands steps n₀ i₀ out n i = 64 - i
 
 loop-holds : tie.Need-loop-holds Inv-loop μ-loop
-loop-holds c = record { all-steps = search needs; all-sent = search needs; within = search needs; early = search needs; few = search needs; count = none-waiting _; bytes = c .pre ∙ none _ _ }
+loop-holds c = record { all-steps = search needs; all-sent = search needs; within = search needs; early = search needs; few = search needs; count = none-counted _ _; bytes = c .pre ∙ none _ _ _ }
 
 returns : tie.Need-returns Inv-loop μ-loop
 returns c =
@@ -47,8 +47,8 @@ loop-again c =
       within = search needs;
       early = search needs;
       few = search needs;
-      count = v .count ∙ skips-waiting _ _ _ (omega arith) e;
-      bytes = v .bytes ∙ skips _ _ _ _ (omega arith) (omega arith) e;
+      count = v .count ∙ skips-count _ _ _ _ (omega arith) e;
+      bytes = v .bytes ∙ skips _ _ _ _ _ (omega arith) (omega arith) e;
     }
 
 loop-again-2 : tie.Need-loop-again-2 Inv-loop μ-loop
@@ -62,14 +62,14 @@ loop-again-2 c =
       within = search needs;
       early = search needs;
       few = search needs;
-      count = ap (λ (k : ℕ). k + 1) (v .count) ∙ counts _ _ _ (omega arith) e;
-      bytes = c .put-frame .ensures ∙ rw (v .bytes) (stores _ _ _ _ _ (omega arith) (omega arith) e (omega arith) _ (v .count) (omega arith));
+      count = ap (λ (k : ℕ). k + 1) (v .count) ∙ counts _ _ _ _ (omega arith) e;
+      bytes = c .put-frame .ensures ∙ rw (v .bytes) (stores _ _ _ _ _ _ (omega arith) (omega arith) e (omega arith) _ (v .count) (omega arith));
     }
 
 returns-2 : tie.Need-returns-2 Inv-loop μ-loop
 returns-2 c =
     let v = c .before .loop .inv in
-    (v .count ∙ full-waiting _ _ _ (omega arith) (omega arith), v .bytes ∙ full _ _ _ _ (omega arith) (omega arith))
+    (v .count ∙ full-count _ _ _ _ (omega arith) (omega arith), v .bytes ∙ full _ _ _ _ _ (omega arith) (omega arith))
 
 pub fill-spec : {M : Type 1} → statement M
 fill-spec =
