@@ -112,7 +112,8 @@ fn in_record() -> Vec<Growth> {
 fn in_playback() -> Vec<Growth> {
     let steps = [1, 2, 4, 8, 16, 32, 64];
     let starts = steps.map(|count| (count, given(recorded(1, count), Event::Start)));
-    let ticks = [1, 2, 4, 8, 16].map(|count| (count, given(playing(63, count - 1), tick())));
+    // Of the steps that left before, every second one leaves again.
+    let ticks = [1, 2, 4, 8].map(|count| (count, given(playing(63, 2 * (count - 1)), tick())));
     let to_last = |pair: Pair| {
         let event = answer(&pair, Status::Finished);
         given(pair, event)

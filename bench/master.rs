@@ -59,7 +59,7 @@ fn playback_events() -> Vec<Named> {
         ("scm_tick", "in record, 64 steps", record(8, 64), tick()),
         ("scm_tick", "in playback, 1st step leaves, 1 frame", playing(0, 0), tick()),
         ("scm_tick", "in playback, 64th leaves, 1 frame", playing(63, 0), tick()),
-        ("scm_tick", "in playback, 64th leaves, 16 frames", playing(63, 15), tick()),
+        ("scm_tick", "in playback, 64th leaves, 8 frames", playing(63, 15), tick()),
         ("scm_tick", "in playback, no answer in time: abort", playing(63, 15).after(tick()), tick()),
         ("scm_answer", "to the first of 64 steps", playing(1, 1), answer(&playing(1, 1), Status::Finished)),
         ("scm_answer", "to the last of 64 steps", all.clone(), last),

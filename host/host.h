@@ -102,7 +102,8 @@ bool drill_answers(uint32_t tick, struct event *event);
 struct line {                       /* a step of a plot; a tick of 0 has not come yet */
     uint8_t frame[SCM_FRAME_BYTES]; /* slot and E.6, as they first left */
     scm_message_step command;       /* what the E.6 says */
-    uint32_t due, left, repeats, answered, done;
+    uint32_t due, left, answered, done;
+    uint32_t again;                 /* bit k: k ticks after it first left, the command left again */
 };
 
 struct plot {
@@ -119,6 +120,7 @@ struct sheet {
     size_t commands, repeats;       /* in all plots that were checked */
     uint32_t latest;                /* the most ticks that a step left after its own due tick, and where that was first */
     size_t latest_plot, latest_step;
+    uint32_t busiest;               /* the most often that one command left in ten ticks in a row */
 };
 
 void sheet_recorded(struct sheet *sheet, const scm_master *master);

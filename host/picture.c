@@ -27,7 +27,7 @@ static const char legend[] =
     "<use href=\"#due\" x=\"30\"/><text x=\"48\" y=\"4\">due: the mark is reached</text>\n"
     "<line class=\"wait\" x1=\"258\" x2=\"288\"/><text x=\"298\" y=\"4\">waits for the steps before it</text>\n"
     "<use href=\"#left\" x=\"530\"/><text x=\"548\" y=\"4\">the command leaves</text>\n"
-    "<use href=\"#again\" x=\"30\" y=\"28\"/><text x=\"48\" y=\"32\">the command is repeated</text>\n"
+    "<use href=\"#again\" x=\"30\" y=\"28\"/><text x=\"48\" y=\"32\">repeated, every second tick</text>\n"
     "<use href=\"#started\" x=\"280\" y=\"28\"/><text x=\"298\" y=\"32\">answered: started</text>\n"
     "<use href=\"#done\" x=\"530\" y=\"28\"/><text x=\"548\" y=\"32\">answered: done</text>\n";
 
@@ -91,8 +91,10 @@ static void draw_lane(FILE *f, const scm_step_view *step, const struct line *l, 
         line(f, "wait", tick_x(l->due), y + FRAME_ROW, tick_x(l->left) - 6, y + FRAME_ROW);
     }
     symbol(f, "left", tick_x(l->left), y + FRAME_ROW);
-    for (uint32_t i = 1; i <= l->repeats; i++) {
-        symbol(f, "again", tick_x(l->left + i), y + FRAME_ROW);
+    for (uint32_t after = 1; after < 32; after++) {
+        if (l->again >> after & 1) {
+            symbol(f, "again", tick_x(l->left + after), y + FRAME_ROW);
+        }
     }
     if (l->done > l->answered) {
         line(f, "run", tick_x(l->answered), y + ANSWER_ROW, tick_x(l->done), y + ANSWER_ROW);

@@ -23,6 +23,14 @@ static struct line *line_of(struct plot *plot, uint32_t slot, uint8_t tan)
     return NULL;
 }
 
+/* A command leaves, and then at every second tick until it is answered; 16 ticks after it first left the playback would be aborted. */
+static bool leaves_now(const struct plot *plot, const struct line *line)
+{
+    uint32_t after = plot->ticks - line->left;
+
+    return line->answered == 0 && after < 16 && after % 2 == 0;
+}
+
 static void take_frame(struct sheet *sheet, struct plot *plot, const uint8_t frame[SCM_FRAME_BYTES])
 {
     scm_message_step command = message_of(SCM_MASTER, SCM_COMMAND, frame + 1).step;
@@ -33,10 +41,10 @@ static void take_frame(struct sheet *sheet, struct plot *plot, const uint8_t fra
         line->left = plot->ticks;
         line->command = command;
         memcpy(line->frame, frame, SCM_FRAME_BYTES);
-    } else if (line != NULL && line->answered == 0 && memcmp(line->frame, frame, SCM_FRAME_BYTES) == 0) {
-        line->repeats++;
+    } else if (line != NULL && leaves_now(plot, line) && memcmp(line->frame, frame, SCM_FRAME_BYTES) == 0) {
+        line->again |= (uint32_t)1 << (plot->ticks - line->left);
     } else {
-        fail("plot %zu, tick %" PRIu32 ": a frame is neither a step's first command nor the same again", sheet->plots, plot->ticks);
+        fail("plot %zu, tick %" PRIu32 ": a frame is neither a step's first command nor the same again when it may leave", sheet->plots, plot->ticks);
     }
 }
 
@@ -44,7 +52,7 @@ static void take_frame(struct sheet *sheet, struct plot *plot, const uint8_t fra
 void sheet_tick(struct sheet *sheet, uint32_t mm, const struct outcome *outcome)
 {
     struct plot *plot = &sheet->plot[sheet->plots - 1];
-    uint32_t waiting = 0;
+    uint32_t leaving = 0;
 
     plot->ticks++;
     plot->distance += mm;
@@ -58,10 +66,10 @@ void sheet_tick(struct sheet *sheet, uint32_t mm, const struct outcome *outcome)
         take_frame(sheet, plot, outcome->frames + SCM_FRAME_BYTES * i);
     }
     for (size_t i = 0; i < plot->sent; i++) {
-        waiting += plot->lines[i].answered == 0;
+        leaving += leaves_now(plot, &plot->lines[i]);
     }
-    if (outcome->count != waiting) {
-        fail("plot %zu, tick %" PRIu32 ": not one frame for each unanswered step", sheet->plots, plot->ticks);
+    if (outcome->count != leaving) {
+        fail("plot %zu, tick %" PRIu32 ": not one frame for each command that leaves", sheet->plots, plot->ticks);
     }
 }
 
@@ -96,6 +104,28 @@ static uint32_t leaving_tick(const struct plot *plot, size_t i)
     return latest;
 }
 
+static uint32_t bits(uint32_t set)
+{
+    uint32_t count = 0;
+
+    for (; set != 0; set &= set - 1) {
+        count++;
+    }
+    return count;
+}
+
+/* The most often that a command left in ten ticks in a row, the first time too. */
+static uint32_t in_ten_ticks(const struct line *line)
+{
+    uint32_t most = 0;
+
+    for (uint32_t rest = line->again | 1; rest != 0; rest >>= 1) {
+        uint32_t count = bits(rest & 0x3FF);
+        most = count > most ? count : most;
+    }
+    return most;
+}
+
 void sheet_check(struct sheet *sheet)
 {
     const struct plot *plot = &sheet->plot[sheet->plots - 1];
@@ -112,7 +142,8 @@ void sheet_check(struct sheet *sheet)
             fail("plot %zu, step %zu: %s", sheet->plots, i + 1, fault);
         }
         sheet->commands++;
-        sheet->repeats += line->repeats;
+        sheet->repeats += bits(line->again);
+        sheet->busiest = in_ten_ticks(line) > sheet->busiest ? in_ten_ticks(line) : sheet->busiest;
         if (line->left - line->due > sheet->latest) {
             sheet->latest = line->left - line->due;
             sheet->latest_plot = sheet->plots - 1;
@@ -157,12 +188,16 @@ static void print_answers(const struct sheet *sheet)
            "   Proved for every playback: no step leaves before its mark, and step n leaves at most n - 1 ticks after the last mark of steps 1 to n\n"
            "   was reached; so step %zu at most %zu ticks after all marks were reached.\n",
            sheet->latest, sheet->latest / 10.0, sheet->latest_plot + 1, sheet->latest_step + 1, sheet->steps, sheet->steps - 1);
+    printf("\nThe test bench's question\n"
+           "   How often does a command leave? Here at most %" PRIu32 " times in a second, which is ten ticks in a row.\n"
+           "   Proved for every run of calls: at most five times in ten ticks in a row, and never at two ticks in a row.\n",
+           sheet->busiest);
 }
 
 void sheet_print(const struct sheet *sheet)
 {
-    printf("A tick is a tenth of a second. A step is due at the first tick that reaches its mark. Its command leaves, is repeated at each tick until\n"
-           "its client answers, and is done when the client says so.\n\nThe plot end as recorded\n"
+    printf("A tick is a tenth of a second. A step is due at the first tick that reaches its mark. Its command leaves, is repeated at every second tick\n"
+           "until its client answers, and is done when the client says so.\n\nThe plot end as recorded\n"
            "  step  client             function       recorded       shown    mark\n");
     for (size_t i = 0; i < sheet->steps; i++) {
         const scm_step_view *s = &sheet->recorded[i];

@@ -588,7 +588,9 @@ static inline uint8_t scm_abort(scm_master *m)
     return scm_taken_over(m, &o);
 }
 
-/* 100 ms and the millimetres driven in them. Fills 576 bytes with count frames of nine bytes, and 0 after them. 1, 4, 2. */
+/* 100 ms and the millimetres driven in them. Fills 576 bytes with count frames of nine bytes, and 0 after them: send just these. In playback
+   a command stands in the frames of the tick at which it first leaves and of every second tick after it, until its client has answered it: at
+   most five times in ten ticks. So count, at most 8, is not how many commands are unanswered; it may be 0 while some are. 1, 4, 2. */
 static inline uint8_t scm_tick(scm_master *m, uint32_t mm, uint8_t *frames, size_t frames_len, uint32_t *count)
 {
     scm_outcome o = scm_master_tick(*m, mm, frames, frames_len);

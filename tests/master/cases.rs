@@ -1,4 +1,4 @@
-//! The cases of document 01 as fixed runs, with what they must give written out. Each event is compared with the model
+//! The cases of document 01, and of the requests of document 02, as fixed runs, with what they must give written out. Each event is compared with the model
 //! too, as in every run.
 
 use super::event::Event;
@@ -43,7 +43,7 @@ fn pool() -> Vec<u8> {
 
 fn must_be<T: PartialEq + Debug>(what: &str, given: T, meant: T) {
     if given != meant {
-        super::fail(&format!("case of 01, {what}: {given:02X?}, meant was {meant:02X?}"));
+        super::fail(&format!("case, {what}: {given:02X?}, meant was {meant:02X?}"));
     }
 }
 
@@ -97,14 +97,20 @@ fn answer(run: &mut Run, status: Status, tan: u8) -> Vec<u8> {
     answered(run, Event::Answer { slot: 0, message: messages::answer(&it).to_vec(), room: 8 })
 }
 
-/// The ticks at which a further frame came, of so many ticks without an answer.
+/// The frames of a tick.
+fn frames(run: &mut Run, millimetres: u32) -> Vec<Vec<u8>> {
+    let count = tick(run, millimetres) as usize;
+    run.lent[..9 * count].chunks(9).map(<[u8]>::to_vec).collect()
+}
+
+/// The ticks at which a frame came that had not come before, of so many ticks without an answer.
 fn leaving_ticks(run: &mut Run, ticks: u32, millimetres: u32) -> Vec<u32> {
     let mut leaving = Vec::new();
-    let mut frames = 0;
+    let mut seen = Vec::new();
     for number in 1..=ticks {
-        let count = tick(run, millimetres);
-        leaving.extend((frames..count).map(|_| number));
-        frames = count;
+        let new: Vec<_> = frames(run, millimetres).into_iter().filter(|frame| !seen.contains(frame)).collect();
+        leaving.extend(new.iter().map(|_| number));
+        seen.extend(new);
     }
     leaving
 }
@@ -155,10 +161,20 @@ fn one_step_sent(run: &mut Run) {
     must_be("count", tick(run, 0), 1);
 }
 
+/// Of document 02: "A command leaves again only at even ticks after it first left, so at 0, 2 and on to 14.": in the 15
+/// ticks after, the same command again.
+fn silent_for_15(run: &mut Run) {
+    one_step_sent(run);
+    let first = vec![run.lent[..9].to_vec()];
+    for after in 1..=15 {
+        let wanted = if after % 2 == 0 { first.clone() } else { Vec::new() };
+        must_be("repeated", frames(run, 0), wanted);
+    }
+}
+
 /// "A first answer after 15 ticks is in time".
 fn answered_after_15(run: &mut Run) {
-    one_step_sent(run);
-    (0..15).for_each(|_| must_be("count", tick(run, 0), 1));
+    silent_for_15(run);
     let given = answer(run, Status::Started, 1);
     must_be("acknowledged", given, vec![0x34, TIME, 0x42, 0x01, 0xFF, 0xFF, 0xFF, 0xFF]);
     (0..100).for_each(|_| must_be("count", tick(run, 0), 0));
@@ -169,8 +185,7 @@ fn answered_after_15(run: &mut Run) {
 
 /// "none by tick 16 aborts"
 fn silent_for_16(run: &mut Run) {
-    one_step_sent(run);
-    (0..15).for_each(|_| must_be("count", tick(run, 0), 1));
+    silent_for_15(run);
     must_be("count", tick(run, 0), 0);
     must_be("state", run.model.state == State::Abort, true);
 }
@@ -200,10 +215,8 @@ fn two_depths(run: &mut Run) {
     done(run, Event::Stop);
     must_be("values", values(run), vec![240, 220]);
     playback(run);
-    tick(run, 0);
-    tick(run, 0);
-    let sent: Vec<u8> = run.lent[..18].chunks(9).map(|frame| frame[5]).collect();
-    must_be("values sent", sent, vec![240, 220]);
+    let sent: Vec<Vec<u8>> = (0..4).map(|_| frames(run, 0).iter().map(|frame| frame[5]).collect()).collect();
+    must_be("values sent", sent, vec![vec![240], vec![220], vec![240], vec![220]]);
 }
 
 fn values(run: &Run) -> Vec<u32> {

@@ -254,11 +254,16 @@ fn ticked(millimetres: u32, before: &Master, after: &Master, names: &mut Vec<Str
         names.push("TAN 255 to 0".to_string());
     }
     if let Some(playback) = playback(after) {
-        let unanswered = playback.commands.iter().filter(|command| command.answered == Answered::Not).count();
-        match unanswered {
-            0 => names.push("no frame in a tick of playback".to_string()),
-            16 => names.push("16 frames in a tick, the most there can be".to_string()),
+        let unanswered = || playback.commands.iter().filter(|command| command.answered == Answered::Not);
+        match (unanswered().count(), playback.frames(&after.sequence.steps).len()) {
+            (0, _) => names.push("no step unanswered in a tick of playback".to_string()),
+            (1, 0) => names.push("no frame, and a step unanswered".to_string()),
+            (2.., 0) => names.push("no frame, and several steps unanswered".to_string()),
+            (16, 8) => names.push("8 frames in a tick, the most there can be".to_string()),
             _ => {}
+        }
+        if unanswered().any(|command| playback.ticks - command.left == 14) {
+            names.push("a command leaves for the eighth time, the last".to_string());
         }
     }
 }

@@ -42,12 +42,18 @@ impl Playback {
         }
     }
 
-    /// "nine to a frame: slot, then the eight of E.6". "each sent, unanswered step is written in one frame, oldest
-    /// first".
-    fn frames(&self, steps: &[Step]) -> Vec<Vec<u8>> {
+    /// "each sent, unanswered step", and of document 02, request 6: "A command leaves again only at even ticks after it
+    /// first left, so at 0, 2 and on to 14."
+    fn leaves(&self, command: &Command) -> bool {
+        command.answered == Answered::Not && matches!(self.ticks - command.left, 0 | 2 | 4 | 6 | 8 | 10 | 12 | 14)
+    }
+
+    /// "nine to a frame: slot, then the eight of E.6", "written in one frame, oldest first". "The frame count becomes
+    /// the frames really written".
+    pub fn frames(&self, steps: &[Step]) -> Vec<Vec<u8>> {
         let sent = self.commands.iter().zip(steps);
-        let unanswered = sent.filter(|(command, _)| command.answered == Answered::Not);
-        unanswered.map(|(command, step)| frame(step, command.tan)).collect()
+        let leaving = sent.filter(|(command, _)| self.leaves(command));
+        leaving.map(|(command, step)| frame(step, command.tan)).collect()
     }
 
     fn all_done(&self, steps: &[Step]) -> bool {
@@ -63,7 +69,7 @@ fn frame(step: &Step, tan: u8) -> Vec<u8> {
 
 impl Master {
     /// "At a tick: count it; at tick 36,000 abort; if a sent step has no answer 16 ticks after it first left, abort;
-    /// else the next step in order leaves if due, one new step a tick; then each sent, unanswered step is written".
+    /// else the next step in order leaves if due, one new step a tick"; then the frames are written.
     pub fn tick_playback(&mut self, millimetres: u32) -> Vec<Vec<u8>> {
         let playback = match &mut self.state {
             State::Playback(playback) => playback,

@@ -1,4 +1,6 @@
-//! Promises of document 01 that are checked at run time on what the library gives, without the model.
+//! Promises of documents 01 and 02 that are checked at run time on what the library gives, without the model.
+
+use std::collections::VecDeque;
 
 use super::event::Event;
 use super::library::{Master, Outcome, Step};
@@ -12,11 +14,12 @@ type Broken = Option<String>;
 
 pub struct Promises {
     watch: Option<Watch>,
+    rate: Rate,
 }
 
 impl Promises {
     pub fn new() -> Promises {
-        Promises { watch: None }
+        Promises { watch: None, rate: Rate::default() }
     }
 
     /// The promise that an event broke, if any: the state before it, what it gave, and the lent bytes before and after.
@@ -31,6 +34,9 @@ impl Promises {
             (Event::Start, _) => self.watch = Some(Watch::new(old)),
             (Event::Tick { millimetres, .. }, watch) => {
                 if let Some(promise) = frame_count(given, before, after) {
+                    return Some(promise);
+                }
+                if let Some(promise) = self.rate.tick(&after[..9 * given.count as usize]) {
                     return Some(promise);
                 }
                 if let Some(watch) = watch {
@@ -82,6 +88,34 @@ fn frame_count(given: &Outcome, before: &[u8], after: &[u8]) -> Broken {
     None
 }
 
+/// E.1: a command leaves at most five times a second, and 100 ms lie between two times at least. By the bytes of the
+/// frames alone, whatever playback they are of: those of the last nine ticks, the newest last.
+#[derive(Default)]
+struct Rate {
+    last: VecDeque<Vec<[u8; 9]>>,
+}
+
+impl Rate {
+    fn tick(&mut self, frames: &[u8]) -> Broken {
+        let frames: Vec<[u8; 9]> = frames.chunks(9).map(|frame| frame.try_into().unwrap()).collect();
+        for frame in &frames {
+            let times = |frames: &Vec<[u8; 9]>| frames.iter().filter(|&other| other == frame).count();
+            let now = times(&frames);
+            if now + self.last.back().map_or(0, times) > 1 {
+                return broken("a command leaves once in two ticks in a row at most");
+            }
+            if now + self.last.iter().map(times).sum::<usize>() > 5 {
+                return broken("a command leaves five times in ten ticks in a row at most");
+            }
+        }
+        self.last.push_back(frames);
+        if self.last.len() > 9 {
+            self.last.pop_front();
+        }
+        None
+    }
+}
+
 /// A command that has left: its frame, the tick at which it first left, and whether any answer was taken for it.
 struct Left {
     frame: [u8; 9],
@@ -122,8 +156,8 @@ impl Watch {
             return broken("16 ticks after it left, and at tick 36,000, a step is answered or the playback is over");
         }
         self.leave();
-        let unanswered = self.left.iter().filter(|left| !left.answered);
-        let mut wanted: Vec<u8> = unanswered.flat_map(|left| left.frame).collect();
+        let leaving = self.left.iter().filter(|left| !left.answered && (self.ticks - left.tick) % 2 == 0);
+        let mut wanted: Vec<u8> = leaving.flat_map(|left| left.frame).collect();
         wanted.resize(FRAMES, 0);
         if frames != &wanted[..] {
             return Some(self.first_wrong(frames, &wanted));
@@ -176,7 +210,7 @@ impl Watch {
         let place = place.unwrap_or(0);
         let of = |bytes: &[u8]| format!("{:02X?}", &bytes[9 * place..9 * place + 9]);
         format!(
-            "each step leaves at its tick and stays until answered: frame {place} is {}, not {}",
+            "each step leaves at its tick and at every second one after it until answered: frame {place} is {}, not {}",
             of(frames),
             of(wanted)
         )

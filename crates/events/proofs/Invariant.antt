@@ -30,7 +30,7 @@ run-more [] e m = refl
 run-more (x ∷ events) e m = run-more events e (apply m x .master)
 
 -- a call gives a master that calls give
-given-next : (m : Master) (e : Event) → Given m → Given (apply m e .master)
+pub given-next : (m : Master) (e : Event) → Given m → Given (apply m e .master)
 given-next m e g = (g .0 ++ e ∷ [], run-more (g .0) e newMaster ∙ ap (λ (k : Master). apply k e .master) (g .1))
 
 -- what every call that is done keeps is so of every master that calls give

@@ -37,7 +37,7 @@ noFrames = replicate 576 0
 unfoldable pub framesIn : Master → List ℕ
 framesIn m = pick (isPlaying m) (framesOf (m .playback) (m .sequence .steps)) noFrames
 
--- "The frame count is the number of sent, unanswered steps after the tick."
+-- 02, 6: "The frame count becomes the frames really written": those of the playback's tick
 unfoldable pub countIn : Master → ℕ
 countIn m = pick (isPlaying m) (frameCountOf (m .playback .ticks) (m .playback .sent) (m .playback .commands)) 0
 

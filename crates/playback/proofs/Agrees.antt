@@ -81,7 +81,7 @@ names-only s c h n = rw (bits-only (s .profile .mask) (s .name) (c .name) h (n .
 
 -- ---- labels
 
-same : (a b : List ℕ) → sameBytes a b ≡ true → a ≡ b
+pub same : (a b : List ℕ) → sameBytes a b ≡ true → a ≡ b
 same [] [] e = refl
 same [] (y ∷ b) e = absurd (true≢false (sym e))
 same (x ∷ a) [] e = absurd (true≢false (sym e))

@@ -11,4 +11,4 @@ use Rattle.playback.specs.Cases.{Cases}
 
 pub cases : Cases
 unfolding pick more blankRecord blankPlayback countedPlayback someLate doesStop doesLeave nextTan afterLeaving tickOf frameCountOf findAnswered answerFrom withAnswer someUndone isAllDone answeredOf
-cases = record { time = refl; distance = refl; in-time = refl; too-late = refl; goes-on = refl; waits = refl }
+cases = record { time = refl; distance = refl; in-time = refl; too-late = refl; goes-on = refl; repeated = refl; in-turn = refl; together = refl }

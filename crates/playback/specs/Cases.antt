@@ -39,6 +39,15 @@ started = record { function = 5; state = 2; status = Started; error = 0; tan = 1
 abbrev pub afterReply : Sequence → Ticked → Ticked
 afterReply q t = record { end = answeredOf (t .playback) q 1 started .end; tan = t .tan; playback = answeredOf (t .playback) q 1 started .playback }
 
+-- the frame count after so many ticks from the start, none of which brings a millimetre
+abbrev pub countAfter : Sequence → ℕ → ℕ
+countAfter q ticks =
+    let t = played q (replicate ticks 0) in frameCountOf (t .playback .ticks) (t .playback .sent) (t .playback .commands)
+
+-- the same, for each of the first sixteen ticks
+abbrev pub counts : Sequence → List ℕ
+counts q = map (countAfter q) (1 ∷ 2 ∷ 3 ∷ 4 ∷ 5 ∷ 6 ∷ 7 ∷ 8 ∷ 9 ∷ 10 ∷ 11 ∷ 12 ∷ 13 ∷ 14 ∷ 15 ∷ 16 ∷ [])
+
 pub record Cases : Type 0 where
   -- "Time marks 0, 0, 5 leave at ticks 1, 2, 5."
   pub time : leavingTicks (played (sequenceWith (marked 0 0 ∷ marked 0 0 ∷ marked 0 5 ∷ [])) (replicate 5 0)) ≡ 1 ∷ 2 ∷ 5 ∷ []
@@ -48,6 +57,12 @@ pub record Cases : Type 0 where
   pub in-time : let q = sequenceWith (marked 0 0 ∷ []) in onward q (afterReply q (played q (replicate 16 0))) (0 ∷ []) .end ≡ goesOn
   -- "none by tick 16 aborts"
   pub too-late : played (sequenceWith (marked 0 0 ∷ [])) (replicate 17 0) .end ≡ toAbort
-  -- at tick 16 it goes on, and the step is still written
+  -- at tick 16 it goes on
   pub goes-on : played (sequenceWith (marked 0 0 ∷ [])) (replicate 16 0) .end ≡ goesOn
-  pub waits : let t = played (sequenceWith (marked 0 0 ∷ [])) (replicate 16 0) in frameCountOf (t .playback .ticks) (t .playback .sent) (t .playback .commands) ≡ 1
+  -- 02, 6: "at 0, 2 and on to 14": how many frames each of the ticks 1 to 16 writes of a step that leaves at tick 1 and is not answered
+  pub repeated : counts (sequenceWith (marked 0 0 ∷ [])) ≡ 1 ∷ 0 ∷ 1 ∷ 0 ∷ 1 ∷ 0 ∷ 1 ∷ 0 ∷ 1 ∷ 0 ∷ 1 ∷ 0 ∷ 1 ∷ 0 ∷ 1 ∷ 0 ∷ []
+  -- of two, the second of which leaves at tick 2, and of three, the third of which leaves at tick 5
+  pub in-turn : counts (sequenceWith (marked 0 0 ∷ marked 0 0 ∷ [])) ≡ replicate 16 1
+  pub together :
+      counts (sequenceWith (marked 0 0 ∷ marked 0 0 ∷ marked 0 5 ∷ []))
+      ≡ 1 ∷ 1 ∷ 1 ∷ 1 ∷ 2 ∷ 1 ∷ 2 ∷ 1 ∷ 2 ∷ 1 ∷ 2 ∷ 1 ∷ 2 ∷ 1 ∷ 2 ∷ 1 ∷ []

@@ -15,11 +15,11 @@ fn low(x: u32) -> u8
     (x % 256) as u8
 }
 
-// What was sent is written at this tick.
+// What was sent is written at this tick: unanswered, at an even tick after it first left.
 fn is_written(c: Sent, ticks: u32) -> bool
     ensures { λ r. ⌜ r ≡ isWritten ticks c ⌝ }
 {
-    c.answer == ANSWER_NONE
+    (c.answer == ANSWER_NONE) & (c.left % 2 == ticks % 2)
 }
 
 // One frame, written from a place on.

@@ -40,7 +40,7 @@ use Rattle.plays.proofs.Calls.{Aside, Stays, keeps, aborts, stays, Show
 use Rattle.plays.proofs.Runs.{seenAll, whole-at, accepted-mm, fair, same-ticks, lasts-last, lasting, Begins, begins, run-is}
 use Rattle.plays.proofs.Bytes.{its-function-is, its-status-is}
 use Rattle.plays.proofs.Commands.{steps-few}
-use Rattle.plays.proofs.Theorems.{leaves-exactly, ticks-are, good, goes-shown, shows-aborted, not-refused, seen-tick}
+use Rattle.plays.proofs.Theorems.{leaves-exactly, ticks-are, not-long-ago, good, goes-shown, shows-aborted, not-refused, seen-tick}
 use Rattle.plays.proofs.Replies.{replies}
 use Rattle.plays.proofs.LastAnswers as answers
 
@@ -58,34 +58,6 @@ module _ (m : Master) (s : Started m) (es : List Event) (l : Lasts m es) where
 
   ticks-now : now .playback .ticks ≡ length (ticksIn m es)
   ticks-now = ticks-are m s es l
-
-  -- no step that waits left 16 ticks ago
-  not-long-ago : (i t : ℕ) → i < now .playback .sent → sentAt (now .playback) i .answer ≡ answerNone → sentAt (now .playback) i .left ≡ t
-      → length (ticksIn m es) < t + 16
-  not-long-ago i t h w q = go (decLe (t + 16) (length (ticksIn m es)))
-    where
-      b : Begins m
-      b = begins m s
-
-      answers : replay.AnsweredAt (replay.playRun (m .sequence) (m .tan) (seenAll m es ++ [])) i
-          ⊎ (replay.playRun (m .sequence) (m .tan) (seenAll m es ++ []) ≡ aborted) → ⊥
-      answers x =
-          said
-          (subst (λ (r : State). replay.AnsweredAt r i ⊎ (r ≡ aborted))
-          (ap (replay.playRun (m .sequence) (m .tan)) (append-nil (seenAll m es)) ∙ run-is m b es l) x)
-        where
-          said : HasAnswer (now .playback) i ⊎ (going (now .playback) (now .tan) ≡ aborted) → ⊥
-          said (inl y) = y .1 w
-          said (inr y) = subst Going y tt
-
-      go : Dec (t + 16 ≤ length (ticksIn m es)) → length (ticksIn m es) < t + 16
-      go (no k) = omega arith
-      go (yes k) =
-          absurd
-          (answers
-          (theorems.sixteen (m .sequence) (b .whole) (m .tan) (seenAll m es) [] (subst replay.Fair (sym (append-nil (seenAll m es))) (fair m es)) i t
-          (subst (λ (r : State). replay.HasLeftAt r i t) (sym (run-is m b es l)) (h, q))
-          (omega (arith, k, ap (λ (x : List replay.PlaybackEvent). length (replay.ticksOf x)) (append-nil (seenAll m es)), ap length (same-ticks m es)))))
 
   ticked-out : (mm : ℕ) (out : List ℕ) → ¬ Playing (apply now (tick mm out) .master) → apply now (tick mm out) .number ≡ 0
       → ¬ Going (stepOf (m .sequence) (going (now .playback) (now .tan)) (replay.tick mm))
@@ -107,7 +79,7 @@ module _ (m : Master) (s : Started m) (es : List Event) (l : Lasts m es) where
   tick-cause mm out (replay.tooLong _ h) = tooLong mm out (omega (arith, h, ticks-now, good m s es l .early))
   tick-cause mm out (replay.noAnswer _ i a w h) =
       let t = sentAt (now .playback) i .left in
-      noAnswer mm out i t (leaves-exactly m s es l i t .0 (a, refl) .0) (omega (arith, h, ticks-now, not-long-ago i t a w refl)) (λ r. replies m s es l i .1 r .1 w)
+      noAnswer mm out i t (leaves-exactly m s es l i t .0 (a, refl) .0) (omega (arith, h, ticks-now, not-long-ago m s es l i t a w refl)) (λ r. replies m s es l i .1 r .1 w)
 
   ended-by-tick : (mm : ℕ) (out : List ℕ) (state : ℕ) → apply now (tick mm out) .master .state ≡ state → (state ≡ states.playback → ⊥)
       → apply now (tick mm out) .number ≡ 0 → Cause m es (tick mm out) state

@@ -9,3 +9,5 @@ pub mod Written
 pub mod LastAnswers
 pub mod Causes
 pub mod Endings
+pub mod Began
+pub mod FiveASecond

@@ -1,7 +1,7 @@
 -- Calls through which a playback lasts are a run of crate `replay`, with the same ticks.
 use mathlib.Core.Path.{_≡_, refl, sym, ap, _∙_, subst}
 use mathlib.Core.Bool.{true}
-use mathlib.Core.List.{List, [], _∷_, _++_}
+use mathlib.Core.List.{List, [], _∷_, _++_, append-assoc}
 use Prim.Native.Nat.{ℕ, _≤_}
 use native.Mathlib.Omega.{arith}
 use borrow.Author.Tests.{ltb-false, eqb-true}
@@ -72,6 +72,11 @@ run-append (e ∷ a) b m = run-append a b (apply m e .master)
 pub seen-append : (a b : List Event) (m : Master) → seenAll m (a ++ b) ≡ seenAll m a ++ seenAll (runFrom m a) b
 seen-append [] b m = refl
 seen-append (e ∷ a) b m = ap (λ (l : List replay.PlaybackEvent). seen m e ∷ l) (seen-append a b (apply m e .master))
+
+pub ticks-append : (a b : List Event) (m : Master) → ticksIn m (a ++ b) ≡ ticksIn m a ++ ticksIn (runFrom m a) b
+ticks-append [] b m = refl
+ticks-append (e ∷ a) b m =
+    ap (λ (l : List ℕ). tickIn m e ++ l) (ticks-append a b (apply m e .master)) ∙ sym (append-assoc (tickIn m e) _ _)
 
 pub lasts-head : (m : Master) (es : List Event) → Lasts m es → Playing m
 lasts-head m [] h = h

@@ -1,10 +1,11 @@
 -- When the steps of a playback of the master leave, and when it ends: carried over from crate `replay` by `run-is`.
 use mathlib.Core.Path.{_≡_, refl, sym, ap, _∙_, subst}
 use mathlib.Core.Bool.{true}
-use mathlib.Core.Logic.{_↔_}
-use mathlib.Core.List.{List}
-use Prim.Native.Nat.{ℕ, _+_, _%_, _≤_, _<_}
+use mathlib.Core.Logic.{_↔_, _⊎_, inl, inr}
+use mathlib.Core.List.{List, [], _++_, append-nil}
+use Prim.Native.Nat.{ℕ, suc, _+_, _%_, _≤_, _<_}
 use native.Mathlib.Omega.{arith}
+use native.Mathlib.Decide.{decLe}
 use borrow.Author.Tests.{eqb-false}
 use lib.Dec.{eqb}
 use lib.ListN.{length}
@@ -12,12 +13,12 @@ use Rattle.octets.specs.Pick.{pick}
 use Rattle.sequence.specs.Sequence.{lengthOf}
 use Rattle.sequence.specs.declared.Sequence.{Sequence}
 use Rattle.playback.specs.declared.Playback.{Playback}
-use Rattle.playback.specs.State.{blankPlayback}
+use Rattle.playback.specs.State.{answerNone, blankPlayback}
 use Rattle.master.specs.declared.Master.{Master}
 use Rattle.master.specs.Call.{Call, outcomeOf}
 use Rattle.master.specs.States as states
 use Rattle.master.specs.Messages.{replyIn}
-use Rattle.replay.specs.Run.{State, going, done, aborted, Going, ticksOf, sentAt, DueAt, Latest}
+use Rattle.replay.specs.Run.{State, going, done, aborted, Going, ticksOf, sentAt, HasAnswer, DueAt, Latest}
 use Rattle.replay.specs.Run as replay
 use Rattle.replay.proofs.Follows.{Good, Sound}
 use Rattle.replay.proofs.Theorems as theorems
@@ -90,10 +91,57 @@ ticks-are m s es l =
     theorems.ticks-are (m .sequence) (b .whole) (m .tan) (seenAll m es) (fair m es) (runFrom m es .playback) (runFrom m es .tan) (run-is m b es l)
     ∙ ap length (same-ticks m es)
 
+-- no step that waits left 16 ticks ago
+module _ (m : Master) (s : Started m) (es : List Event) (l : Lasts m es) where
+  abbrev playRuns : List replay.PlaybackEvent → State
+  playRuns xs = replay.playRun (m .sequence) (m .tan) xs
+
+  answered-now : (i : ℕ) → sentAt (runFrom m es .playback) i .answer ≡ answerNone
+      → replay.AnsweredAt (playRuns (seenAll m es ++ [])) i ⊎ (playRuns (seenAll m es ++ []) ≡ aborted) → ⊥
+  answered-now i w x =
+      said
+      (subst (λ (r : State). replay.AnsweredAt r i ⊎ (r ≡ aborted)) (ap playRuns (append-nil (seenAll m es)) ∙ run-is m (begins m s) es l) x)
+    where
+      said : HasAnswer (runFrom m es .playback) i ⊎ (going (runFrom m es .playback) (runFrom m es .tan) ≡ aborted) → ⊥
+      said (inl y) = y .1 w
+      said (inr y) = subst Going y tt
+
+  pub not-long-ago : (i t : ℕ) → i < runFrom m es .playback .sent → sentAt (runFrom m es .playback) i .answer ≡ answerNone
+      → sentAt (runFrom m es .playback) i .left ≡ t → length (ticksIn m es) < t + 16
+  not-long-ago i t h w q = go (decLe (t + 16) (length (ticksIn m es)))
+    where
+      go : Dec (t + 16 ≤ length (ticksIn m es)) → length (ticksIn m es) < t + 16
+      go (no k) = omega arith
+      go (yes k) =
+          absurd
+          (answered-now i w
+          (theorems.sixteen (m .sequence) (begins m s .whole) (m .tan) (seenAll m es) [] (subst replay.Fair (sym (append-nil (seenAll m es))) (fair m es)) i t
+          (subst (λ (r : State). replay.HasLeftAt r i t) (sym (run-is m (begins m s) es l)) (h, q))
+          (omega (arith, k, ap (λ (x : List replay.PlaybackEvent). length (ticksOf x)) (append-nil (seenAll m es)), ap length (same-ticks m es)))))
+
 pub good : (m : Master) → Started m → (es : List Event) → Lasts m es → Good (runFrom m es .playback)
 good m s es l =
     let b = begins m s in
     subst Sound (run-is m b es l) (theorems.sound (m .sequence) (b .whole) (m .tan) (seenAll m es) (fair m es))
+
+-- ---- one new step a tick
+
+due-once : (q : Sequence) (mms : List ℕ) (j a b : ℕ) → DueAt q mms j a → DueAt q mms j b → a ≡ b
+due-once q mms j a b x y = go (decLe (suc a) b) (decLe (suc b) a)
+  where
+    go : Dec (a < b) → Dec (b < a) → a ≡ b
+    go (yes h) d = absurd (y .first a (x .numbered) h (x .reaching))
+    go (no h) (yes k) = absurd (x .first b (y .numbered) k (y .reaching))
+    go (no h) (no k) = omega arith
+
+-- a later step leaves at a later tick
+pub leaves-later : (q : Sequence) (mms : List ℕ) (i j t u : ℕ) → Latest q mms i t → Latest q mms j u → i < j → t < u
+leaves-later q mms i j t u x y h =
+    let o = x .one-of-them in
+    let n = y .none-later (o .0) (omega (arith, o .1, h)) in
+    omega (arith, o .1, h, o .2 .2, n .2, due-once q mms (o .0) (o .2 .0) (n .0) (o .2 .1) (n .1))
+
+-- ---- steps that have left
 
 pub left-seen : (m : Master) → Started m → (es : List Event) → Lasts m es → (i : ℕ) → i < runFrom m es .playback .sent → HasLeft m es i
 left-seen m s es l i h = let t = sentAt (runFrom m es .playback) i .left in (t, leaves-exactly m s es l i t .0 (h, refl))

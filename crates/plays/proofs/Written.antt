@@ -1,9 +1,9 @@
 -- The lent bytes after a tick: the commands of the steps that are written, one after the other; and the tick at which a step first stands there.
 use mathlib.Core.Path.{_≡_, refl, sym, ap, _∙_, subst}
 use mathlib.Core.Bool.{Bool, true}
-use mathlib.Core.Logic.{_↔_}
+use mathlib.Core.Logic.{_↔_, inl, inr}
 use mathlib.Core.List.{List, [], _∷_, _++_, flatMap, append-assoc}
-use Prim.Native.Nat.{ℕ, suc, _+_, _-_, _*_, _≤_, _<_}
+use Prim.Native.Nat.{ℕ, suc, _+_, _-_, _*_, _/_, _%_, _≤_, _<_}
 use native.Mathlib.Nat.{zero-add}
 use native.Mathlib.Omega.{arith}
 use native.Mathlib.Decide.{decLe}
@@ -12,7 +12,9 @@ use lib.Dec.{eqb}
 use lib.ListN.{length, getD, take, drop, replicate, length-take}
 use lib.Seq.{getD-take}
 use Rattle.octets.proofs.Tests.{pick-true, pick-false}
-use Rattle.sequence.specs.Sequence.{blankStep}
+use Rattle.arrays.specs.Every.{EveryTwo}
+use Rattle.recording.proofs.Steps.{both}
+use Rattle.sequence.specs.Sequence.{blankStep, lengthOf}
 use Rattle.sequence.specs.declared.Sequence.{Sequence}
 use Rattle.playback.specs.declared.Sent.{Sent}
 use Rattle.playback.specs.declared.Playback.{Playback}
@@ -32,12 +34,12 @@ use Rattle.replay.proofs.Kept as kept
 use Rattle.events.specs.Events.{Event, tick, answer, apply, lentAfter, runFrom}
 use Rattle.events.proofs.Calls.{after-is, count-is, written-is}
 use Rattle.events.proofs.Choices.{chosen, chosen-by, either}
-use Rattle.plays.specs.Plays.{Started, Playing, Lasts, stepAt, commandOf, LeftAt}
-use Rattle.plays.specs.Frames.{Unanswered, Member, FramesAt, FirstLeaves, frameAt}
+use Rattle.plays.specs.Plays.{Started, Playing, Lasts, ticksIn, stepAt, commandOf, LeftAt}
+use Rattle.plays.specs.Frames.{Unanswered, Leaves, Member, FramesAt, FirstLeaves, frameAt}
 use Rattle.plays.proofs.Calls.{Stays, keeps, aborts, stays, View, aTick, anAnswer, another, view}
 use Rattle.plays.proofs.Runs.{seenAll, whole-at, accepted-mm, run-append, lasts-head, lasts-last, lasts-append, lasting, Begins, begins}
-use Rattle.plays.proofs.Commands.{command-is, nine-bytes}
-use Rattle.plays.proofs.Theorems.{ticks-are, good, own-tan, left-seen, seen-left, is-step}
+use Rattle.plays.proofs.Commands.{command-is, nine-bytes, differ}
+use Rattle.plays.proofs.Theorems.{leaves-exactly, leaves-later, ticks-are, not-long-ago, good, own-tan, left-seen, seen-left, is-step}
 use Rattle.plays.proofs.Replies.{next, replies}
 use Rattle.plays.proofs.Numbering.{numbersFrom, how-many, ascends, member-numbered, numbered-member, last-number, frames-are, pad-is, frame-of, member-at, at-member}
 
@@ -91,25 +93,37 @@ module _ (m : Master) (s : Started m) (es : List Event) (l : Lasts m es) where
   abbrev numbers : List ℕ
   numbers = numbersFrom isNow 0 sentCells
 
-  waits-is : (i : ℕ) → Member i numbers ↔ Unanswered m es i
-  waits-is i = (to, from)
+  -- a step is written exactly where its command leaves
+  leaves-is : (i : ℕ) → Member i numbers ↔ Leaves m es i
+  leaves-is i = (to, from)
     where
-      to : Member i numbers → Unanswered m es i
+      to : Member i numbers → Leaves m es i
       to h =
           let w = member-numbered isNow 0 sentCells i h in
           let e : i ≡ w .cell = omega (arith, w .is) in
           let k : i < runFrom m es .playback .sent = omega (arith, w .within, how-long) in
-          let a : sentAt (runFrom m es .playback) i .answer ≡ answerNone =
-          ap (λ (c : Sent). c .answer) (sym (at-cell i k)) ∙ ap (λ (j : ℕ). getD sentCells j blankSent .answer) e ∙ eqb-true _ _ (w .holds) in
-          (left-seen m s es l i k, λ r. replies m s es l i .1 r .1 a)
+          let b = both _ _ (subst (λ (c : Sent). isNow c ≡ true) (ap (λ (j : ℕ). getD sentCells j blankSent) (sym e) ∙ at-cell i k) (w .holds)) in
+          let a : sentAt (runFrom m es .playback) i .answer ≡ answerNone = eqb-true _ _ (b .0) in
+          let t = sentAt (runFrom m es .playback) i .left in
+          let p : t % 2 ≡ runFrom m es .playback .ticks % 2 = eqb-true _ _ (b .1) in
+          let q = leaves-exactly m s es l i t .0 (k, refl) in
+          record {
+            first = t;
+            is-first = q .0;
+            again = (length (ticksIn m es) - t) / 2;
+            few = omega (arith, not-long-ago m s es l i t k a refl);
+            even = omega (arith, p, q .1, ticks-are m s es l);
+            unanswered = λ r. replies m s es l i .1 r .1 a;
+          }
 
-      from : Unanswered m es i → Member i numbers
+      from : Leaves m es i → Member i numbers
       from h =
-          let k = seen-left m s es l i (h .0) in
+          let q = leaves-exactly m s es l i (h .first) .1 (h .is-first, omega (arith, h .even)) in
           let a : eqb (sentAt (runFrom m es .playback) i .answer) answerNone ≡ true =
-          either _ (λ t. t) (λ f. absurd (h .1 (replies m s es l i .0 (k, eqb-false _ _ f)))) in
-          subst (λ (j : ℕ). Member j numbers) (zero-add i)
-          (numbered-member isNow 0 sentCells i (omega (arith, k, how-long)) (ap (λ (c : Sent). eqb (c .answer) answerNone) (at-cell i k) ∙ a))
+          either _ (λ t. t) (λ f. absurd (h .unanswered (replies m s es l i .0 (q .0, eqb-false _ _ f)))) in
+          let p : sentAt (runFrom m es .playback) i .left % 2 ≡ runFrom m es .playback .ticks % 2 = omega (arith, q .1, h .even, ticks-are m s es l) in
+          let w : isNow (sentAt (runFrom m es .playback) i) ≡ true = rw (a, eq-eqb _ _ p) in
+          subst (λ (j : ℕ). Member j numbers) (zero-add i) (numbered-member isNow 0 sentCells i (omega (arith, q .0, how-long)) (ap isNow (at-cell i (q .0)) ∙ w))
 
   own-frame : (i : ℕ) → i < length sentCells → frameOf (getD (runFrom m es .sequence .steps) i blankStep) (getD sentCells i blankSent .tan) ≡ commandOf m (0 + i)
   own-frame i h =
@@ -140,6 +154,21 @@ module _ (m : Master) (s : Started m) (es : List Event) (l : Lasts m es) where
   unfolding frameCountOf
   count-numbers = sym (how-many isNow 0 sentCells)
 
+-- ---- at most eight: they left at ticks that are even ticks apart, and at most 14 ticks ago
+
+module _ (m : Master) (es : List Event) where
+  spread : (i : ℕ) (l : List ℕ) → EveryTwo (λ j k. j < k) (i ∷ l) → ((k : ℕ) → Member k l → Leaves m es k) → (x : Leaves m es i)
+      → x .first + 2 * length l ≤ length (ticksIn m es)
+  spread i [] a h x = omega (arith, x .even)
+  spread i (j ∷ l) a h x =
+      let y = h j (inl refl) in
+      let z = spread j l (a .1) (λ k w. h k (inr w)) y in
+      omega (arith, leaves-later (m .sequence) (ticksIn m es) i j (x .first) (y .first) (x .is-first) (y .is-first) (a .0 .0), z, x .even, y .even)
+
+  at-most-eight : (l : List ℕ) → EveryTwo (λ j k. j < k) l → ((k : ℕ) → Member k l → Leaves m es k) → length l ≤ 8
+  at-most-eight [] a h = omega arith
+  at-most-eight (i ∷ l) a h = let x = h i (inl refl) in omega (arith, spread i l a (λ k w. h k (inr w)) x, x .even, x .few)
+
 -- WHAT A TICK WRITES
 module _ (m : Master) (s : Started m) (es : List Event) (mm : ℕ) (out : List ℕ) (l : Lasts m (es ++ tick mm out ∷ []))
     (z : apply (runFrom m es) (tick mm out) .number ≡ 0) where
@@ -157,8 +186,8 @@ module _ (m : Master) (s : Started m) (es : List Event) (mm : ℕ) (out : List �
       record {
         steps = numbersNow;
         ascending = ascends (isNow m s after l) 0 (sentCells m s after l);
-        those = waits-is m s after l;
-        few = few-numbers m s after l;
+        those = leaves-is m s after l;
+        few = at-most-eight m after numbersNow (ascends (isNow m s after l) 0 (sentCells m s after l)) (λ k. leaves-is m s after l k .0);
         bytes =
             lent-is (runFrom m es) mm out z
             ∙ ap (λ (n : Master). framesIn n ++ drop 576 out) (sym after-run)
@@ -173,24 +202,45 @@ module _ (m : Master) (s : Started m) (es : List Event) (mm : ℕ) (out : List �
 
 -- ---- frame by frame
 
+-- a step whose command leaves has left, and is not answered
+pub has-left : {m : Master} {es : List Event} {i : ℕ} → Leaves m es i → Unanswered m es i
+has-left h = ((h .first, (h .is-first, omega (arith, h .even))), h .unanswered)
+
 module _ (m : Master) (es : List Event) (mm : ℕ) (out : List ℕ) (f : FramesAt m es mm out) where
   frame-is : (k : ℕ) → k < length (f .steps) → frameAt k (lentAfter (runFrom m es) (tick mm out)) ≡ commandOf m (getD (f .steps) k 0)
   frame-is k h = ap (frameAt k) (f .bytes) ∙ frame-of (commandOf m) (nine-bytes m) (f .steps) _ k h
 
-  -- EACH REPEAT IS THE SAME COMMAND
-  pub repeats-of : (i : ℕ) → Unanswered m (es ++ tick mm out ∷ []) i
-      → (k : ℕ) × ((k < apply (runFrom m es) (tick mm out) .count) × (frameAt k (lentAfter (runFrom m es) (tick mm out)) ≡ commandOf m i))
-  repeats-of i u =
-      let x = member-at (f .steps) i (f .those i .1 u) in
-      (x .0, (omega (arith, x .1 .0, f .count), frame-is (x .0) (x .1 .0) ∙ ap (commandOf m) (x .1 .1)))
+  -- each is that of a step whose command leaves
+  pub leaves-at : (k : ℕ) → k < apply (runFrom m es) (tick mm out) .count
+      → Leaves m (es ++ tick mm out ∷ []) (getD (f .steps) k 0) × (frameAt k (lentAfter (runFrom m es) (tick mm out)) ≡ commandOf m (getD (f .steps) k 0))
+  leaves-at k h =
+      let l : k < length (f .steps) = omega (arith, h, f .count) in
+      (f .those (getD (f .steps) k 0) .0 (at-member (f .steps) k l), frame-is k l)
+
+  -- A COMMAND LEAVES AGAIN EXACTLY AT EVEN TICKS AFTER IT FIRST LEFT, AND EACH REPEAT IS THE SAME COMMAND
+  pub repeats-of : Started m → (i : ℕ) → i < lengthOf (m .sequence)
+      → Leaves m (es ++ tick mm out ∷ []) i
+      ↔ ((k : ℕ) × ((k < apply (runFrom m es) (tick mm out) .count) × (frameAt k (lentAfter (runFrom m es) (tick mm out)) ≡ commandOf m i)))
+  repeats-of s i h = (to, from)
+    where
+      to : Leaves m (es ++ tick mm out ∷ []) i
+          → (k : ℕ) × ((k < apply (runFrom m es) (tick mm out) .count) × (frameAt k (lentAfter (runFrom m es) (tick mm out)) ≡ commandOf m i))
+      to u =
+          let x = member-at (f .steps) i (f .those i .1 u) in
+          (x .0, (omega (arith, x .1 .0, f .count), frame-is (x .0) (x .1 .0) ∙ ap (commandOf m) (x .1 .1)))
+
+      from : (k : ℕ) × ((k < apply (runFrom m es) (tick mm out) .count) × (frameAt k (lentAfter (runFrom m es) (tick mm out)) ≡ commandOf m i))
+          → Leaves m (es ++ tick mm out ∷ []) i
+      from x =
+          let o = leaves-at (x .0) (x .1 .0) in
+          let j = getD (f .steps) (x .0) 0 in
+          let e : j ≡ i = differ m s j i (is-step m (es ++ tick mm out ∷ []) j (has-left (o .0) .0)) h (sym (o .1) ∙ x .1 .1) in
+          subst (Leaves m (es ++ tick mm out ∷ [])) e (o .0)
 
   -- THERE IS NO OTHER FRAME
   pub no-other-of : (k : ℕ) → k < apply (runFrom m es) (tick mm out) .count
       → (i : ℕ) × (Unanswered m (es ++ tick mm out ∷ []) i × (frameAt k (lentAfter (runFrom m es) (tick mm out)) ≡ commandOf m i))
-  no-other-of k h =
-      let l : k < length (f .steps) = omega (arith, h, f .count) in
-      let i = getD (f .steps) k 0 in
-      (i, (f .those i .0 (at-member (f .steps) k l), frame-is k l))
+  no-other-of k h = let o = leaves-at k h in (getD (f .steps) k 0, (has-left (o .0), o .1))
 
 -- ---- the tick at which a step leaves
 
@@ -230,17 +280,18 @@ playOf (done p) = p
 playOf aborted = blankPlayback
 
 -- what an accepted tick does to the playback, where it lets step i leave
-record Left (m : Master) (mm : ℕ) (out : List ℕ) (i : ℕ) : Type 0 where
+pub record Left (m : Master) (mm : ℕ) (out : List ℕ) (i : ℕ) : Type 0 where
   accepted : apply m (tick mm out) .number ≡ 0
-  none : m .playback .sent ≡ i
+  pub none : m .playback .sent ≡ i
   one : apply m (tick mm out) .master .playback .sent ≡ i + 1
+  counted : apply m (tick mm out) .master .playback .ticks ≡ suc (m .playback .ticks)
   cell : sentAt (apply m (tick mm out) .master .playback) i ≡ record { tan = nextTan (m .tan); answer = 0; left = suc (m .playback .ticks) }
 
 module _ (m : Master) (h : Playing m) (i : ℕ) where
   abbrev Goes : Event → replay.PlaybackEvent → Type 0
   Goes e x = stepOf (m .sequence) (going (m .playback) (m .tan)) x ≡ going (apply m e .master .playback) (apply m e .master .tan)
 
-  tick-leaves : (mm : ℕ) (out : List ℕ) → Good (m .playback) → Whole (m .sequence) → m .playback .sent ≤ i → i < apply m (tick mm out) .master .playback .sent
+  pub tick-leaves : (mm : ℕ) (out : List ℕ) → Good (m .playback) → Whole (m .sequence) → m .playback .sent ≤ i → i < apply m (tick mm out) .master .playback .sent
       → Playing (apply m (tick mm out) .master) → Left m mm out i
   tick-leaves mm out g w below above k =
       chosen-by (λ x. Goes (tick mm out) x → Left m mm out i) (eqb (apply m (tick mm out) .number) 0) (replay.tick mm) replay.message
@@ -253,6 +304,7 @@ module _ (m : Master) (h : Playing m) (i : ℕ) where
         accepted = eqb-true _ 0 q;
         none = x .none;
         one = omega (arith, ap (λ (y : Playback). y .sent) p, x .one);
+        counted = ap (λ (y : Playback). y .ticks) p ∙ x .counted;
         cell = ap (λ (y : Playback). sentAt y i) p ∙ x .cell;
       })
       (λ _ e. absurd (omega (arith, ap kept.sentOf e))) (next m h (tick mm out) k)
@@ -265,7 +317,7 @@ module _ (m : Master) (h : Playing m) (i : ℕ) where
       (λ e. omega (arith, ap kept.sentOf e)) (next m h (answer slot msg out) k)
 
 -- the tick of a step stays beside it
-still-left : (es : List Event) (n : Master) → Lasts n es → (i : ℕ) → i < n .playback .sent
+pub still-left : (es : List Event) (n : Master) → Lasts n es → (i : ℕ) → i < n .playback .sent
     → sentAt (runFrom n es .playback) i .left ≡ sentAt (n .playback) i .left
 still-left es n l i h =
     let z =
@@ -276,6 +328,10 @@ still-left es n l i h =
 none-yet : (m : Master) → Begins m → m .playback .sent ≡ 0
 unfolding blankPlayback
 none-yet m b = ap (λ (p : Playback). p .sent) (b .blank)
+
+-- what leaves at this tick for the first time is written
+written-first : (tan t ticks : ℕ) (c : Sent) → c ≡ record { tan = tan; answer = answerNone; left = t } → ticks ≡ t → isWritten ticks c ≡ true
+written-first tan t ticks c e q = rw (e, q) (eq-eqb (t % 2) (t % 2) refl)
 
 -- STEP i FIRST STANDS IN THE LENT BYTES AT THE TICK AT WHICH IT LEAVES, THE LAST OF THOSE THAT ARE WRITTEN
 first-of : (m : Master) → (s : Started m) → (es : List Event) → Lasts m es → (i t : ℕ) → LeftAt (runFrom m es) i t → (x : First m es i)
@@ -305,8 +361,10 @@ first-of m s es l i t h x v = go (x .e) v (x .split) (x .above) (x .on)
         let cs = runFrom m (c ++ tick mm out ∷ []) .playback .commands in
         let one : runFrom m (c ++ tick mm out ∷ []) .playback .sent ≡ suc i = omega (arith, ap (λ (y : Master). y .playback .sent) p, r .one) in
         let now : Sent → Bool = isWritten (runFrom m (c ++ tick mm out ∷ []) .playback .ticks) in
-        let waits : eqb (getD cs i blankSent .answer) answerNone ≡ true =
-        eq-eqb _ _ (ap (λ (y : Master). sentAt (y .playback) i .answer) p ∙ ap (λ (y : Sent). y .answer) (r .cell)) in
+        let t-now : runFrom m (c ++ tick mm out ∷ []) .playback .ticks ≡ suc (n .playback .ticks) = ap (λ (y : Master). y .playback .ticks) p ∙ r .counted in
+        let q : sentAt (runFrom m (c ++ tick mm out ∷ []) .playback) i ≡ record { tan = nextTan (n .tan); answer = 0; left = suc (n .playback .ticks) } =
+        ap (λ (y : Master). sentAt (y .playback) i) p ∙ r .cell in
+        let is-now : now (getD cs i blankSent) ≡ true = written-first (nextTan (n .tan)) (suc (n .playback .ticks)) _ _ q t-now in
         let g = good m s (c ++ tick mm out ∷ []) a in
         record {
           earlier = c;
@@ -328,7 +386,7 @@ first-of m s es l i t h x v = go (x .e) v (x .split) (x .above) (x .on)
           not-before = λ y. omega (arith, seen-left m s c (x .lasts) i y, r .none);
           written = written m s c mm out a (r .accepted);
           others = numbersFrom now 0 (take i cs);
-          last = ap (λ (j : ℕ). numbersFrom now 0 (take j cs)) one ∙ last-number now 0 cs i (omega (arith, one, g .cells, g .within)) waits
+          last = ap (λ (j : ℕ). numbersFrom now 0 (take j cs)) one ∙ last-number now 0 cs i (omega (arith, one, g .cells, g .within)) is-now
               ∙ ap (λ (j : ℕ). numbersFrom now 0 (take i cs) ++ j ∷ []) (zero-add i);
         }
 

@@ -1,5 +1,6 @@
 -- 01, "Verification and playback", what a tick writes: "then each sent, unanswered step is written in one frame, oldest first. A tick fills a frame buffer
--- of 576 bytes, nine to a frame: slot, then the eight of E.6; the rest are 00. Bytes past 576 stay."
+-- of 576 bytes, nine to a frame: slot, then the eight of E.6; the rest are 00. Bytes past 576 stay." And 02, request 6: "A command leaves again only at even
+-- ticks after it first left, so at 0, 2 and on to 14. The abort at 16 stays. The frame count becomes the frames really written".
 use Prim.Native.Nat.{ℕ, _+_, _-_, _*_, _/_, _%_, _≤_, _<_}
 use mathlib.Core.Path.{_≡_}
 use mathlib.Core.Logic.{_↔_, _⊎_}
@@ -10,11 +11,24 @@ use Rattle.arrays.specs.Every.{EveryTwo}
 use Rattle.sequence.specs.Sequence.{lengthOf}
 use Rattle.master.specs.declared.Master.{Master}
 use Rattle.events.specs.Events.{Event, tick, apply, lentAfter, runFrom}
+use Rattle.replay.specs.Run.{Latest}
 use Rattle.plays.specs.Plays.{Started, Playing, Lasts, ticksIn, stepAt, tanOf, commandOf, LeftAt, HasLeft, Replied}
 
 -- step i has left, and its client has not answered
 abbrev pub Unanswered : Master → List Event → ℕ → Type 0
 Unanswered m es i = HasLeft m es i × ¬ Replied m es i
+
+-- the command of step i leaves at the last tick of these calls, for the first time or again
+pub record Leaves (m : Master) (es : List Event) (i : ℕ) : Type 0 where
+  -- the tick at which "it first left"
+  pub first : ℕ
+  pub is-first : Latest (m .sequence) (ticksIn m es) i first
+  -- "at even ticks after it first left, so at 0, 2 and on to 14": how often it has left again
+  pub again : ℕ
+  pub few : again ≤ 7
+  pub even : first + 2 * again ≡ length (ticksIn m es)
+  -- "each sent, unanswered step"
+  pub unanswered : ¬ Replied m es i
 
 abbrev pub Member : ℕ → List ℕ → Type 0
 Member i [] = ⊥
@@ -22,15 +36,15 @@ Member i (j ∷ l) = (i ≡ j) ⊎ Member i l
 
 -- what an accepted tick writes through which the playback lasts, after the calls es
 pub record FramesAt (m : Master) (es : List Event) (mm : ℕ) (out : List ℕ) : Type 0 where
-  -- "each sent, unanswered step .. oldest first"
+  -- those whose command leaves at this tick, "oldest first"
   pub steps : List ℕ
   pub ascending : EveryTwo (λ i j. i < j) steps
-  pub those : (i : ℕ) → Member i steps ↔ Unanswered m (es ++ tick mm out ∷ []) i
-  -- there is room for them
-  pub few : length steps ≤ 64
+  pub those : (i : ℕ) → Member i steps ↔ Leaves m (es ++ tick mm out ∷ []) i
+  -- at most eight, which left 0, 2, .. 14 ticks ago: there is room for them
+  pub few : length steps ≤ 8
   -- their commands, one after the other, "the rest are 00. Bytes past 576 stay."
   pub bytes : lentAfter (runFrom m es) (tick mm out) ≡ flatMap (commandOf m) steps ++ (replicate (576 - 9 * length steps) 0x00 ++ drop 576 out)
-  -- "The frame count is the number of sent, unanswered steps after the tick."
+  -- "The frame count becomes the frames really written"
   pub count : apply (runFrom m es) (tick mm out) .count ≡ length steps
 
 -- the calls come to an accepted tick, the t-th, before which step i has not left, and at which it leaves: its command is the last that is written
@@ -56,11 +70,12 @@ pub record Frames : Type 0 where
   -- at every accepted tick through which the playback lasts
   pub written : (m : Master) → Started m → (es : List Event) (mm : ℕ) (out : List ℕ) → Lasts m (es ++ tick mm out ∷ [])
       → apply (runFrom m es) (tick mm out) .number ≡ completed → FramesAt m es mm out
-  -- so "each repeat is the same command": the frame of each step that waits is its one command
+  -- "A command leaves again only at even ticks after it first left", exactly then, and "each repeat is the same command": the one of its step
   pub repeats : (m : Master) → Started m → (es : List Event) (mm : ℕ) (out : List ℕ) → Lasts m (es ++ tick mm out ∷ [])
       → apply (runFrom m es) (tick mm out) .number ≡ completed
-      → (i : ℕ) → Unanswered m (es ++ tick mm out ∷ []) i
-      → (k : ℕ) × ((k < apply (runFrom m es) (tick mm out) .count) × (frameAt k (lentAfter (runFrom m es) (tick mm out)) ≡ commandOf m i))
+      → (i : ℕ) → i < lengthOf (m .sequence)
+      → Leaves m (es ++ tick mm out ∷ []) i
+      ↔ ((k : ℕ) × ((k < apply (runFrom m es) (tick mm out) .count) × (frameAt k (lentAfter (runFrom m es) (tick mm out)) ≡ commandOf m i)))
   -- and there is no other frame: each of those that the tick counts is that of a step that waits
   pub no-other : (m : Master) → Started m → (es : List Event) (mm : ℕ) (out : List ℕ) → Lasts m (es ++ tick mm out ∷ [])
       → apply (runFrom m es) (tick mm out) .number ≡ completed

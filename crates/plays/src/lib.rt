@@ -1,6 +1,7 @@
 // When the steps of a playback leave, what stands in their frames, and when it ends: theorems on the master, through any calls.
 ghost use Rattle.plays.specs.Leavings.{Leavings};
 ghost use Rattle.plays.specs.Frames.{Frames};
+ghost use Rattle.plays.specs.FiveASecond.{FiveASecond};
 ghost use Rattle.plays.specs.Ends.{Ends};
 ghost use Rattle.plays.specs.Promises.{Promises};
 
@@ -14,6 +15,11 @@ pub fn frames()
     ensures { λ _. ⌜ Frames ⌝ }
 {}
 
+// How often a command leaves.
+pub fn five_a_second()
+    ensures { λ _. ⌜ FiveASecond ⌝ }
+{}
+
 // When, why and how a playback ends.
 pub fn ends()
     ensures { λ _. ⌜ Ends ⌝ }
@@ -25,5 +31,6 @@ pub fn promises()
 {
     leavings();
     frames();
+    five_a_second();
     ends()
 }

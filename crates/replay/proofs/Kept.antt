@@ -77,6 +77,7 @@ pub record Leaving (sequence : Sequence) (p : Playback) (tan mm i : ℕ) : Type 
   pub now : stepOf sequence (going p tan) (tick mm) ≡ going after (nextTan tan)
   pub one : after .sent ≡ suc i
   pub kept : Good after
+  pub counted : after .ticks ≡ suc (p .ticks)
   pub cell : sentAt after i ≡ record { tan = nextTan tan; answer = answerNone; left = suc (p .ticks) }
 
 module _ (sequence : Sequence) (whole : Whole sequence) (i : ℕ) where
@@ -97,6 +98,7 @@ module _ (sequence : Sequence) (whole : Whole sequence) (i : ℕ) where
             now = e;
             one = omega arith;
             kept = subst Sound e (keeps sequence whole (going p tan) (tick mm) (f, tt) g);
+            counted = ticks-counted p mm g f;
             cell = rw (← z) (getD-set-same (p .commands) (p .sent) _ blankSent (omega (arith, w refl, g .cells)) ∙ rw (ticks-counted p mm g f));
           }
       go false false e w l = absurd (omega arith)

@@ -11,7 +11,7 @@ frames-spec =
     (tie.spec
     (λ c. record {
       written = written;
-      repeats = λ m s es mm out l z. repeats-of m es mm out (written m s es mm out l z);
+      repeats = λ m s es mm out l z. repeats-of m es mm out (written m s es mm out l z) s;
       no-other = λ m s es mm out l z. no-other-of m es mm out (written m s es mm out l z);
       no-frames = no-frames;
       first = first-leaves;
