@@ -1,4 +1,4 @@
-//! The library, through include/scm.h, against models that are written from document 01 alone. Stops at the first difference, which it prints.
+//! The library, through include/scm.h, against models that are written from documents 01 and 02 alone. Stops at the first difference, which it prints.
 //!
 //!   main                        every part, each in one line and what it met
 //!   main long                   the same with many more cases

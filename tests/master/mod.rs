@@ -1,5 +1,5 @@
-//! The library's master against a model that is written from document 01 alone, event by event: what each call gives, every field of the new state,
-//! every lent byte, and the readers.
+//! The library's master against a model that is written from document 01 and the requests of document 02 alone, event by event: what each
+//! call gives, every field of the new state, every lent byte, and the readers.
 
 mod cases;
 mod coverage;

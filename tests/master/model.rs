@@ -1,6 +1,7 @@
-//! A model of the master, written from document 01 alone: its clients, its states, and what leads from one to another.
-//! It is plain on purpose. Sentences of 01 are quoted above the lines that follow them. What is recorded is in
-//! recording.rs, the checks before a start in verification.rs, what is played back in playback.rs.
+//! A model of the master, written from document 01 and the requests of document 02 alone: its clients, its states, and
+//! what leads from one to another. It is plain on purpose. Their sentences are quoted above the lines that follow them.
+//! What is recorded is in recording.rs, the checks before a start in verification.rs, what is played back in
+//! playback.rs.
 
 use super::kept::{self, Kept};
 use super::messages;
