@@ -24,7 +24,7 @@ command s tan h =
     let c : s .value / 65536 / 256 ≡ s .value / 16777216 = omega arith in
     rw (a, b, c)
 
-pub count-few : (test : Sent → Bool) (l : List Sent) → frameCount test l ≤ length l
+count-few : (test : Sent → Bool) (l : List Sent) → frameCount test l ≤ length l
 count-few test [] = omega arith
 count-few test (c ∷ l) = go (test c) (count-few test l)
   where

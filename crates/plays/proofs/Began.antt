@@ -2,14 +2,13 @@
 use mathlib.Core.Path.{_≡_, refl, sym, ap, _∙_, subst}
 use mathlib.Core.Bool.{true}
 use mathlib.Core.List.{List, [], _∷_, _++_}
-use Prim.Native.Nat.{ℕ}
 use native.Mathlib.Omega.{arith}
 use borrow.Author.Tests.{eqb-true, eqb-false}
 use lib.Dec.{eqb}
 use Rattle.master.specs.declared.Master.{Master}
 use Rattle.master.specs.Call.{numberOf}
 use Rattle.master.specs.States as states
-use Rattle.master.specs.States.{isPlaying, newMaster, withState, ended}
+use Rattle.master.specs.States.{isPlaying, newMaster, ended}
 use Rattle.master.specs.Recording.{recordingEnded}
 use Rattle.events.specs.Events.{Event, start, callOf, apply, runFrom, Given}
 use Rattle.events.proofs.Calls.{number-is, after-is}

@@ -1,18 +1,16 @@
 -- A call takes the master out of a playback exactly where it is accepted and 01 names a cause, in the words of what is seen.
 use mathlib.Core.Path.{_≡_, refl, sym, ap, _∙_, subst}
-use mathlib.Core.Bool.{Bool, true, false, not, _&&_, _||_, true≢false, or-true}
+use mathlib.Core.Bool.{Bool, true, false, not}
 use mathlib.Core.Logic.{_↔_, _⊎_, inl, inr}
-use mathlib.Core.List.{List, [], _∷_, _++_, append-nil}
-use Prim.Native.Nat.{ℕ, zero, suc, _+_, _≤_, _<_}
+use mathlib.Core.List.{List}
+use Prim.Native.Nat.{ℕ}
 use native.Mathlib.Omega.{arith}
-use native.Mathlib.Decide.{decLe}
-use borrow.Author.Tests.{eq-eqb, ne-eqb, eqb-true, eqb-false, not-true}
+use borrow.Author.Tests.{eq-eqb, eqb-true, eqb-false}
 use lib.Dec.{eqb}
-use lib.ListN.{length, getD}
+use lib.ListN.{length}
 use Rattle.octets.specs.Pick.{pick}
 use Rattle.sequence.specs.Sequence.{lengthOf}
 use Rattle.sequence.specs.declared.Sequence.{Sequence}
-use Rattle.playback.specs.State.{answerNone}
 use Rattle.playback.specs.Answer.{hasFunction}
 use Rattle.master.specs.declared.Master.{Master}
 use Rattle.master.specs.Call.{slotAt}
@@ -23,9 +21,8 @@ use Rattle.master.specs.Clients as clients
 use Rattle.master.specs.Clients.{reportFrom, isOver, endOf, followed, reported, reportCall, lostCall}
 use Rattle.master.specs.Recording.{interrupted, heard, indicationCall}
 use Rattle.master.specs.Playback.{abortCall, clientAbortCall}
-use Rattle.replay.specs.Run.{State, going, aborted, stepOf, Going, sentAt, HasAnswer}
+use Rattle.replay.specs.Run.{going, aborted, stepOf, Going, sentAt}
 use Rattle.replay.specs.Run as replay
-use Rattle.replay.proofs.Theorems as theorems
 use Rattle.replay.proofs.Why as why
 use Rattle.events.specs.Events.{Event, abort, report, lost, indication, clientAbort, tick, answer, callOf, apply, runFrom}
 use Rattle.events.proofs.Outside as outside
@@ -37,7 +34,7 @@ use Rattle.seen.proofs.Tests.{is-indication, to-enabled, from-enabled}
 use Rattle.seen.proofs.Bytes.{is-step, no-step}
 use Rattle.plays.specs.Ends.{Cause, operator, clientAborts, clientLost, clientReports, interrupts, answersError, isLast, tooLong, noAnswer}
 use Rattle.plays.proofs.Calls.{Aside, Stays, keeps, aborts, stays, Shows, View, aTick, anAnswer, another, view, one}
-use Rattle.plays.proofs.Runs.{seenAll, whole-at, accepted-mm, fair, same-ticks, lasts-last, lasting, Begins, begins, run-is}
+use Rattle.plays.proofs.Runs.{seenAll, whole-at, accepted-mm, fair, lasts-last, lasting, begins, run-is}
 use Rattle.plays.proofs.Bytes.{its-function-is, its-status-is}
 use Rattle.plays.proofs.Commands.{steps-few}
 use Rattle.plays.proofs.Theorems.{leaves-exactly, ticks-are, not-long-ago, good, goes-shown, shows-aborted, not-refused, seen-tick}

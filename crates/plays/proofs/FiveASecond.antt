@@ -38,7 +38,7 @@ use Rattle.plays.specs.Plays.{Started, Playing, Lasts, tickIn, ticksIn, 
 use Rattle.plays.specs.Frames.{Leaves, FramesAt, frameAt}
 use Rattle.plays.specs.FiveASecond.{timesAmong, timesAt, timesIn, FiveASecond}
 use Rattle.plays.proofs.Calls.{View, aTick, anAnswer, another, view}
-use Rattle.plays.proofs.Runs.{run-append, ticks-append, lasts-last, lasts-left, lasts-append, whole-at}
+use Rattle.plays.proofs.Runs.{run-append, ticks-append, lasts-last, lasts-left, whole-at}
 use Rattle.plays.proofs.Commands.{command-is, differ, tans-differ}
 use Rattle.plays.proofs.Theorems.{leaves-exactly, ticks-are, good, own-tan, tans, is-step}
 use Rattle.plays.proofs.Written.{no-frames, written, has-left, leaves-at, still-left, tick-leaves}

@@ -22,7 +22,6 @@ use Rattle.playback.specs.State.{answerNone, blankSent, blankPlayback}
 use Rattle.playback.specs.Tick.{nextTan}
 use Rattle.playback.specs.Frames.{frameOf, isWritten, framed, filledOf, framesOf, frameCountOf}
 use Rattle.playback.proofs.Fill.{nine}
-use Rattle.playback.proofs.Framing.{count-few}
 use Rattle.master.specs.declared.Master.{Master}
 use Rattle.master.specs.States as states
 use Rattle.master.specs.Messages.{replyIn}
@@ -74,6 +73,21 @@ no-frames m mm out z h =
     let n = none-of (apply m (tick mm out) .master) h in
     (lent-is m mm out z ∙ ap (λ (l : List ℕ). l ++ drop 576 out) (n .0), counted-is m mm out z ∙ n .1)
 
+-- ---- at most eight commands leave at a tick: they first left at ticks that are even ticks apart, and at most 14 ticks ago
+
+module _ (m : Master) (es : List Event) where
+  spread : (i : ℕ) (l : List ℕ) → EveryTwo (λ j k. j < k) (i ∷ l) → ((k : ℕ) → Member k l → Leaves m es k) → (x : Leaves m es i)
+      → x .first + 2 * length l ≤ length (ticksIn m es)
+  spread i [] a h x = omega (arith, x .even)
+  spread i (j ∷ l) a h x =
+      let y = h j (inl refl) in
+      let z = spread j l (a .1) (λ k w. h k (inr w)) y in
+      omega (arith, leaves-later (m .sequence) (ticksIn m es) i j (x .first) (y .first) (x .is-first) (y .is-first) (a .0 .0), z, x .even, y .even)
+
+  at-most-eight : (l : List ℕ) → EveryTwo (λ j k. j < k) l → ((k : ℕ) → Member k l → Leaves m es k) → length l ≤ 8
+  at-most-eight [] a h = omega arith
+  at-most-eight (i ∷ l) a h = let x = h i (inl refl) in omega (arith, spread i l a (λ k w. h k (inr w)) x, x .even, x .few)
+
 -- ---- the steps that are written
 
 module _ (m : Master) (s : Started m) (es : List Event) (l : Lasts m es) where
@@ -86,7 +100,7 @@ module _ (m : Master) (s : Started m) (es : List Event) (l : Lasts m es) where
   at-cell : (i : ℕ) → i < runFrom m es .playback .sent → getD sentCells i blankSent ≡ sentAt (runFrom m es .playback) i
   at-cell i h = getD-take (runFrom m es .playback .sent) (runFrom m es .playback .commands) i blankSent h
 
-  -- the numbers of the steps that are written
+  -- what is written at this tick, and the numbers of these steps
   abbrev isNow : Sent → Bool
   isNow = isWritten (runFrom m es .playback .ticks)
 
@@ -133,8 +147,11 @@ module _ (m : Master) (s : Started m) (es : List Event) (l : Lasts m es) where
       ∙ command-is m s i (is-step m es i (left-seen m s es l i k))
       ∙ ap (commandOf m) (sym (zero-add i))
 
-  few-numbers : length numbers ≤ 64
-  few-numbers = omega (arith, how-many isNow 0 sentCells, count-few isNow sentCells, how-long, good m s es l .within)
+  in-order : EveryTwo (λ i j. i < j) numbers
+  in-order = ascends isNow 0 sentCells
+
+  few-numbers : length numbers ≤ 8
+  few-numbers = at-most-eight m es numbers in-order (λ k. leaves-is k .0)
 
   frames-filled : framesOf (runFrom m es .playback) (runFrom m es .sequence .steps)
       ≡ flatMap (commandOf m) numbers ++ replicate (576 - 9 * length numbers) 0
@@ -154,21 +171,6 @@ module _ (m : Master) (s : Started m) (es : List Event) (l : Lasts m es) where
   unfolding frameCountOf
   count-numbers = sym (how-many isNow 0 sentCells)
 
--- ---- at most eight: they left at ticks that are even ticks apart, and at most 14 ticks ago
-
-module _ (m : Master) (es : List Event) where
-  spread : (i : ℕ) (l : List ℕ) → EveryTwo (λ j k. j < k) (i ∷ l) → ((k : ℕ) → Member k l → Leaves m es k) → (x : Leaves m es i)
-      → x .first + 2 * length l ≤ length (ticksIn m es)
-  spread i [] a h x = omega (arith, x .even)
-  spread i (j ∷ l) a h x =
-      let y = h j (inl refl) in
-      let z = spread j l (a .1) (λ k w. h k (inr w)) y in
-      omega (arith, leaves-later (m .sequence) (ticksIn m es) i j (x .first) (y .first) (x .is-first) (y .is-first) (a .0 .0), z, x .even, y .even)
-
-  at-most-eight : (l : List ℕ) → EveryTwo (λ j k. j < k) l → ((k : ℕ) → Member k l → Leaves m es k) → length l ≤ 8
-  at-most-eight [] a h = omega arith
-  at-most-eight (i ∷ l) a h = let x = h i (inl refl) in omega (arith, spread i l a (λ k w. h k (inr w)) x, x .even, x .few)
-
 -- WHAT A TICK WRITES
 module _ (m : Master) (s : Started m) (es : List Event) (mm : ℕ) (out : List ℕ) (l : Lasts m (es ++ tick mm out ∷ []))
     (z : apply (runFrom m es) (tick mm out) .number ≡ 0) where
@@ -185,9 +187,9 @@ module _ (m : Master) (s : Started m) (es : List Event) (mm : ℕ) (out : List �
   written =
       record {
         steps = numbersNow;
-        ascending = ascends (isNow m s after l) 0 (sentCells m s after l);
+        ascending = in-order m s after l;
         those = leaves-is m s after l;
-        few = at-most-eight m after numbersNow (ascends (isNow m s after l) 0 (sentCells m s after l)) (λ k. leaves-is m s after l k .0);
+        few = few-numbers m s after l;
         bytes =
             lent-is (runFrom m es) mm out z
             ∙ ap (λ (n : Master). framesIn n ++ drop 576 out) (sym after-run)
