@@ -97,7 +97,7 @@ void drill_takes(uint32_t tick, const uint8_t frame[SCM_FRAME_BYTES]);
 /* The next E.7 of this tick, as an event; false if there is no more. */
 bool drill_answers(uint32_t tick, struct event *event);
 
-/* ---- sheet.c: the plot sheet and the inspector's answers */
+/* ---- sheet.c: the plot sheet, the inspector's answers and the test bench's */
 
 struct line {                       /* a step of a plot; a tick of 0 has not come yet */
     uint8_t frame[SCM_FRAME_BYTES]; /* slot and E.6, as they first left */

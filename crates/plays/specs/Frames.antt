@@ -18,7 +18,7 @@ use Rattle.plays.specs.Plays.{Started, Playing, Lasts, ticksIn, stepAt, 
 abbrev pub Unanswered : Master → List Event → ℕ → Type 0
 Unanswered m es i = HasLeft m es i × ¬ Replied m es i
 
--- the command of step i leaves at the last tick of these calls, for the first time or again
+-- at the last of these calls, a tick, the command of step i leaves, for the first time or again
 pub record Leaves (m : Master) (es : List Event) (i : ℕ) : Type 0 where
   -- the tick at which "it first left"
   pub first : ℕ
