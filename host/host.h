@@ -103,7 +103,7 @@ struct line {                       /* a step of a plot; a tick of 0 has not com
     uint8_t frame[SCM_FRAME_BYTES]; /* slot and E.6, as they first left */
     scm_message_step command;       /* what the E.6 says */
     uint32_t due, left, answered, done;
-    uint32_t again;                 /* bit k: k ticks after it first left, the command left again */
+    uint32_t times;                 /* bit k: the command left k ticks after it first left */
 };
 
 struct plot {
@@ -129,6 +129,8 @@ void sheet_answer(struct sheet *sheet, const struct event *event, const struct o
 /* Ends the program where the plot just driven does not keep to the promises. */
 void sheet_check(struct sheet *sheet);
 void sheet_print(const struct sheet *sheet);
+/* Whether a step's command left at this tick, for the first time or again. */
+bool sheet_left_at(const struct line *line, uint32_t tick);
 /* The value by which a plot's coulters went down. */
 uint32_t sheet_depth(const struct plot *plot);
 

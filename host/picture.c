@@ -91,9 +91,9 @@ static void draw_lane(FILE *f, const scm_step_view *step, const struct line *l, 
         line(f, "wait", tick_x(l->due), y + FRAME_ROW, tick_x(l->left) - 6, y + FRAME_ROW);
     }
     symbol(f, "left", tick_x(l->left), y + FRAME_ROW);
-    for (uint32_t after = 1; after < 32; after++) {
-        if (l->again >> after & 1) {
-            symbol(f, "again", tick_x(l->left + after), y + FRAME_ROW);
+    for (uint32_t tick = l->left + 1; tick <= l->answered; tick++) {
+        if (sheet_left_at(l, tick)) {
+            symbol(f, "again", tick_x(tick), y + FRAME_ROW);
         }
     }
     if (l->done > l->answered) {

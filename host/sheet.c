@@ -23,6 +23,11 @@ static struct line *line_of(struct plot *plot, uint32_t slot, uint8_t tan)
     return NULL;
 }
 
+bool sheet_left_at(const struct line *line, uint32_t tick)
+{
+    return tick >= line->left && tick - line->left < 32 && (line->times >> (tick - line->left) & 1) != 0;
+}
+
 /* A command leaves, and then at every second tick until it is answered; 16 ticks after it first left the playback would be aborted. */
 static bool leaves_now(const struct plot *plot, const struct line *line)
 {
@@ -41,11 +46,10 @@ static void take_frame(struct sheet *sheet, struct plot *plot, const uint8_t fra
         line->left = plot->ticks;
         line->command = command;
         memcpy(line->frame, frame, SCM_FRAME_BYTES);
-    } else if (line != NULL && leaves_now(plot, line) && memcmp(line->frame, frame, SCM_FRAME_BYTES) == 0) {
-        line->again |= (uint32_t)1 << (plot->ticks - line->left);
-    } else {
+    } else if (line == NULL || !leaves_now(plot, line) || sheet_left_at(line, plot->ticks) || memcmp(line->frame, frame, SCM_FRAME_BYTES) != 0) {
         fail("plot %zu, tick %" PRIu32 ": a frame is neither a step's first command nor the same again when it may leave", sheet->plots, plot->ticks);
     }
+    line->times |= (uint32_t)1 << (plot->ticks - line->left);
 }
 
 /* A tick and its frames. A step is due at the first tick that reaches its mark. */
@@ -114,12 +118,12 @@ static uint32_t bits(uint32_t set)
     return count;
 }
 
-/* The most often that a command left in ten ticks in a row, the first time too. */
+/* The most often that a command left in ten ticks in a row. */
 static uint32_t in_ten_ticks(const struct line *line)
 {
     uint32_t most = 0;
 
-    for (uint32_t rest = line->again | 1; rest != 0; rest >>= 1) {
+    for (uint32_t rest = line->times; rest != 0; rest >>= 1) {
         uint32_t count = bits(rest & 0x3FF);
         most = count > most ? count : most;
     }
@@ -142,7 +146,7 @@ void sheet_check(struct sheet *sheet)
             fail("plot %zu, step %zu: %s", sheet->plots, i + 1, fault);
         }
         sheet->commands++;
-        sheet->repeats += bits(line->again);
+        sheet->repeats += bits(line->times) - 1;
         sheet->busiest = in_ten_ticks(line) > sheet->busiest ? in_ten_ticks(line) : sheet->busiest;
         if (line->left - line->due > sheet->latest) {
             sheet->latest = line->left - line->due;
