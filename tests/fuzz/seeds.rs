@@ -81,6 +81,8 @@ fn playbacks() -> Vec<Vec<u8>> {
     let full = &[RECORD, ALL_REPORT, RECORDS, MANY, 0, VALUE, 0, 63, STOP, ALL_REPORT, READY];
     let error = |status: u8| [START, TICK, 3, ANSWER, 0, 16 + status, ALL_REPORT, ABORTS, ALL_REPORT, READY];
     let crowded = &[START, TICKS, 0, 15, ANSWER, 15, FINISHED, TICK, 0, ANSWER, 15, STARTED, TICK, 0, TICK, 0];
+    let in_turn = &[START, TICK, 0, TICK, 0, TICK, 0, ANSWER, 0, STARTED, TICKS, 0, 1, ANSWER, 1, FINISHED, TICKS, 0, 5];
+    let at_once = &[START, TICK, 0, TICK, 0, ABORT, ALL_REPORT, ABORTS, ALL_REPORT, READY];
     let again = &[START, PLAY, 0, 64, ALL_REPORT, READY];
     let back = |variant: u8| [&BACK[..5], &[variant], &BACK[6..]].concat();
     vec![
@@ -92,6 +94,7 @@ fn playbacks() -> Vec<Vec<u8>> {
         master(&[CLIENTS, RECORDING, ALL_STARTED, NOT_NOW, &[STOP, CANCEL, LOST, 0], NOT_NOW, &[STOP, CANCEL, ABORT, LOST, 1]]),
         master(&[CLIENTS, RECORDING, ALL_STARTED, TO_THE_END]),
         master(&[CLIENTS, full, crowded]),
+        master(&[CLIENTS, full, in_turn, &[ABORT, ALL_REPORT, ABORTS, ALL_REPORT, READY], at_once, at_once, at_once]),
         master(&[CLIENTS, full, &again.repeat(4)]),
         master(&[CLIENTS, RECORDING, &back(0), &back(1), &back(2), &back(3)]),
         master(&[CLIENTS, RECORDING, &back(4), &back(5), &back(6)]),

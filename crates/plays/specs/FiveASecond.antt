@@ -1,5 +1,5 @@
--- 02, request 6: "E.1 allows no more than five repeats a second, and E.1 decides." It also wants at least 100 ms between two of them. A tick is 100 ms, so ten
--- ticks in a row are a second. Over every run of calls, whatever calls come between the ticks, and also where one playback ends and another one starts.
+-- 02, request 6: "E.1 allows no more than five repeats a second, and E.1 decides." E.1 also wants at least 100 ms between two of them. A tick is 100 ms, so
+-- ten ticks in a row are a second. Over every run of calls, whatever calls come between the ticks, and also where one playback ends and another one starts.
 use Prim.Native.Nat.{ℕ, zero, suc, _+_, _≤_}
 use mathlib.Core.Bool.{cond}
 use mathlib.Core.List.{List, [], _∷_}
@@ -9,7 +9,7 @@ use Rattle.master.specs.declared.Master.{Master}
 use Rattle.events.specs.Events.{Event, apply, lentAfter, Given}
 use Rattle.plays.specs.{Plays.ticksIn, Frames.frameAt}
 
--- how often this frame stands among the first n of these bytes
+-- how often this frame stands among the first n frames of these bytes
 abbrev pub timesAmong : List ℕ → ℕ → List ℕ → ℕ
 timesAmong frame zero bytes = 0
 timesAmong frame (suc n) bytes = cond (sameBytes (frameAt n bytes) frame) (suc (timesAmong frame n bytes)) (timesAmong frame n bytes)

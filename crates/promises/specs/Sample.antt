@@ -6,7 +6,8 @@ use lib.ListN.{length, getD, replicate}
 use Rattle.sequence.specs.Sequence.{blankStep}
 use Rattle.events.specs.Events.{Event, tick, run, runFrom}
 use Rattle.events.specs.Examples.{recordedRun, playingRun, frameBuffer}
-use Rattle.plays.specs.Plays.{Started, Lasts, ticksIn, LeftAt}
+use Rattle.plays.specs.Plays.{Started, Lasts, ticksIn, commandOf, LeftAt}
+use Rattle.plays.specs.FiveASecond.{timesIn}
 
 abbrev pub one : List Event
 one = tick 0 frameBuffer ∷ []
@@ -23,3 +24,5 @@ pub record Sample : Type 0 where
   pub leaves : LeftAt (runFrom (run playingRun) one) 0 1
   -- and sixteen ticks come after that one
   pub waits : 1 + 16 ≤ length (ticksIn (run playingRun) (one ++ sixteen))
+  -- in the first ten of them its command leaves five times: no fewer would do in `FiveASecond`
+  pub five : timesIn (commandOf (run playingRun) 0) (run playingRun) (replicate 10 (tick 0 frameBuffer)) ≡ 5
