@@ -24,5 +24,5 @@ pub record Sample : Type 0 where
   pub leaves : LeftAt (runFrom (run playingRun) one) 0 1
   -- and sixteen ticks come after that one
   pub waits : 1 + 16 ≤ length (ticksIn (run playingRun) (one ++ sixteen))
-  -- in the first ten of them its command leaves five times: no fewer would do in `FiveASecond`
+  -- in the first ten ticks of the playback its command leaves five times: `FiveASecond` cannot say fewer
   pub five : timesIn (commandOf (run playingRun) 0) (run playingRun) (replicate 10 (tick 0 frameBuffer)) ≡ 5
