@@ -1,5 +1,5 @@
-//! The cases of document 01, and of the requests of document 02, as fixed runs, with what they must give written out. Each event is compared with the model
-//! too, as in every run.
+//! The cases of document 01, and of the requests of document 02, as fixed runs, with what they must give written out.
+//! Each event is compared with the model too, as in every run.
 
 use super::event::Event;
 use super::generate::{Pool, Random, Shape, FULL};

@@ -40,7 +40,7 @@ pub record FramesAt (m : Master) (es : List Event) (mm : ℕ) (out : List ℕ) :
   pub steps : List ℕ
   pub ascending : EveryTwo (λ i j. i < j) steps
   pub those : (i : ℕ) → Member i steps ↔ Leaves m (es ++ tick mm out ∷ []) i
-  -- at most eight, which left 0, 2, .. 14 ticks ago: there is room for them
+  -- at most eight, which first left 0, 2, .. 14 ticks ago: there is room for them
   pub few : length steps ≤ 8
   -- their commands, one after the other, "the rest are 00. Bytes past 576 stay."
   pub bytes : lentAfter (runFrom m es) (tick mm out) ≡ flatMap (commandOf m) steps ++ (replicate (576 - 9 * length steps) 0x00 ++ drop 576 out)

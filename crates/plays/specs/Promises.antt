@@ -6,7 +6,7 @@ pub record Promises : Type 0 where
   pub leavings : Leavings
   -- what each tick writes
   pub frames : Frames
-  -- how often a command leaves
+  -- how often a command leaves, over every run
   pub five-a-second : FiveASecond
   -- when, why and how it ends
   pub ends : Ends
