@@ -2,16 +2,15 @@
 use Prim.Native.Nat.{ℕ, _<_}
 use mathlib.Core.Path.{_≡_, refl, sym, ap, subst, _∙_}
 use mathlib.Core.Bool.{true, false, not, _&&_, true≢false, and-false}
-use mathlib.Core.List.{List, [], _∷_, _++_, flatMap}
+use mathlib.Core.List.{List}
 use native.Mathlib.Omega.{arith}
-use lib.Dec.{eqb, ltb}
+use lib.Dec.{eqb}
 use lib.ListN.{length, getD, take, length-set, length-take}
 use lib.Seq.{getD-take, getD-set-same, getD-set-other}
-use borrow.Author.Tests.{eq-eqb, ne-eqb, eqb-true, eqb-false, ltb-true, not-false}
+use borrow.Author.Tests.{eq-eqb, ne-eqb, eqb-true, eqb-false, not-false}
 use Rattle.octets.specs.Pick.{pick}
 use Rattle.octets.proofs.Tests.{pick-true, pick-false}
 use Rattle.arrays.specs.Arrays.{some}
-use Rattle.arrays.specs.Every.{Every}
 use Rattle.arrays.proofs.Every.{every-at, none-passes}
 use Rattle.client.specs.Clients.{isTaken, isWanted, isEnabled, noSlot, blankSlot, withReport}
 use Rattle.client.specs.Records.{isUsed, blankRecord}
@@ -24,9 +23,10 @@ use Rattle.recording.specs.Kept.{isOf}
 use Rattle.recording.specs.Promises.{SoundSequence}
 use Rattle.recording.proofs.Steps.{both}
 use Rattle.playback.specs.Pairs.{pairs}
-use Rattle.playback.specs.Verification.{Check, isListed, isInPool, ofSequence, clientChecks, stepChecks, checksOf}
+use Rattle.playback.specs.Verification.{Rule, namesAgree, ofSequence, clientChecks, stepChecks, checksBy}
 use Rattle.playback.specs.Promises.{EveryHolds}
 use Rattle.playback.proofs.Pairs.{length-pairs, getD-pairs}
+use Rattle.playback.proofs.Holding.{clients-hold, steps-hold, step-listed}
 use Rattle.master.specs.declared.Master.{Master}
 use Rattle.master.specs.Call.{numberOf, slotAt}
 use Rattle.master.specs.States.{isReady, isPlaying, newMaster, withSlot, ended, settled}
@@ -47,27 +47,10 @@ use Rattle.events.proofs.Regular.{length-steps, given-regular}
 
 -- ---- what the checks of a start say
 
-holds-split : (a b : List Check) → EveryHolds (a ++ b) → EveryHolds a × EveryHolds b
-holds-split [] b h = (tt, h)
-holds-split (c ∷ a) b h = let k = holds-split a b (h .1) in ((h .0, k .0), k .1)
-
-holds-each : {X : Type 0} (f : X → List Check) (l : List X) → EveryHolds (flatMap f l) → Every (λ x. EveryHolds (f x)) l
-unfolding flatMap
-holds-each f [] h = tt
-holds-each f (x ∷ l) h = let k = holds-split (f x) (flatMap f l) h in (k .0, holds-each f l (k .1))
-
 -- "8 a client of the sequence is not enabled"
-check-enabled : (s : Client) (c : ClientRecord) → isUsed c ≡ true → EveryHolds (clientChecks (s, c)) → isEnabled s ≡ true
+check-enabled : (agree : Rule) (s : Client) (c : ClientRecord) → isUsed c ≡ true → EveryHolds (clientChecks agree (s, c)) → isEnabled s ≡ true
 unfolding pick clientChecks ofSequence
-check-enabled s c u h = subst EveryHolds (pick-true (isUsed c) _ _ u) h .0
-
--- "11 function or state not in the loaded pool"
-check-listed : (slots : List Client) (s : Step) → EveryHolds (stepChecks slots s) → (s .slot < 8) × (s .state < 64)
-unfolding stepChecks isInPool isListed
-check-listed slots s h =
-    let a = both (ltb (s .slot) 8) _ (h .0) in
-    let b = both (ltb (s .state) 64 && _) _ (a .1) in
-    (ltb-true _ _ (a .0), ltb-true _ _ (both (ltb (s .state) 64) _ (b .0) .0))
+check-enabled agree s c u h = subst EveryHolds (pick-true (isUsed c) _ _ u) h .0
 
 -- ---- eight slots
 
@@ -109,7 +92,7 @@ AllPlayable m = m .state ≡ 4 → (i : ℕ) → i < m .sequence .count → Play
 
 -- ---- at the start
 
-module _ (m : Master) (g : Given m) (c : EveryHolds (checksOf (m .slots) (m .sequence))) where
+module _ (agree : Rule) (m : Master) (g : Given m) (c : EveryHolds (checksBy agree (m .slots) (m .sequence))) where
   abbrev q : Sequence
   q = m .sequence
 
@@ -130,24 +113,21 @@ module _ (m : Master) (g : Given m) (c : EveryHolds (checksOf (m .slots) (m .seq
       absurd (true≢false (sym (eq-eqb (s .slot) (s .slot) refl) ∙ ap (isOf (s .slot)) (sym (getD-take (q .count) (q .steps) i blankStep l)) ∙ n)))
 
   at-start : (i : ℕ) → i < q .count → Playable m (getD (q .steps) i blankStep)
-  unfolding checksOf stepsOf
+  unfolding stepsOf
   at-start i l =
       let s : Step = getD (q .steps) i blankStep in
-      let parts = holds-split (flatMap clientChecks (pairs (m .slots) (q .records))) _ (c .1) in
-      let steps = holds-each (stepChecks (m .slots)) (stepsOf q) (holds-split (flatMap (stepChecks (m .slots)) (stepsOf q)) _ (parts .1) .0) in
-      let clients = holds-each clientChecks (pairs (m .slots) (q .records)) (parts .0) in
       let in-steps : i < length (take (q .count) (q .steps)) =
       omega (arith, l, length-take (q .count) (q .steps), length-steps q sound, sound .few) in
-      let here = check-listed (m .slots) s
+      let here = step-listed (m .slots) s
       (subst (λ (x : Step). EveryHolds (stepChecks (m .slots) x)) (getD-take (q .count) (q .steps) i blankStep l)
-      (every-at (λ (x : Step). EveryHolds (stepChecks (m .slots) x)) (stepsOf q) i blankStep in-steps steps)) in
+      (every-at (λ (x : Step). EveryHolds (stepChecks (m .slots) x)) (stepsOf q) i blankStep in-steps (steps-hold agree (m .slots) q c))) in
       let k : s .slot < 8 = here .0 in
       let e = given-eight m g in
       let pair = getD-pairs (m .slots) (q .records) (s .slot) noSlot blankRecord (omega (arith, k, e)) (omega (arith, k, sound .slots)) in
-      let at = every-at (λ (x : Client × ClientRecord). EveryHolds (clientChecks x)) (pairs (m .slots) (q .records)) (s .slot) (noSlot, blankRecord)
-      (omega (arith, k, length-pairs (m .slots) (q .records) 8 e (sound .slots))) clients in
+      let at = every-at (λ (x : Client × ClientRecord). EveryHolds (clientChecks agree x)) (pairs (m .slots) (q .records)) (s .slot) (noSlot, blankRecord)
+      (omega (arith, k, length-pairs (m .slots) (q .records) 8 e (sound .slots))) (clients-hold agree (m .slots) q c) in
       record {
-        client = (k, check-enabled (slotAt m (s .slot)) _ (used i l k) (subst (λ (x : Client × ClientRecord). EveryHolds (clientChecks x)) pair at));
+        client = (k, check-enabled agree (slotAt m (s .slot)) _ (used i l k) (subst (λ (x : Client × ClientRecord). EveryHolds (clientChecks agree x)) pair at));
         state = here .1;
       }
 
@@ -259,7 +239,7 @@ begins m e n (recordHears slot msg out i l) g z h w = absurd (h w)
 begins m e n (recordHearsLast slot msg out i l) g z h w = absurd (omega arith)
 begins m e n (recordTicks mm out i l t) g z h w = absurd (h w)
 begins m e n (playStarts r) g z h w =
-    λ i l. let k = at-start m g (start-exactly .only m (number-is m (callOf m start) ∙ z) .1) i l in record { client = k .client; state = k .state }
+    λ i l. let k = at-start namesAgree m g (start-exactly .only m (number-is m (callOf m start) ∙ z) .1) i l in record { client = k .client; state = k .state }
 begins m e n (playTicks mm out p l t) g z h w = absurd (h w)
 begins m e n (playTicksLast mm out p) g z h w = absurd (omega arith)
 begins m e n (playHears slot msg out p) g z h w = absurd (h w)

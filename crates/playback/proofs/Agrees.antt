@@ -67,7 +67,7 @@ bits-only mask a b h e =
     each : (k : ℕ) → k < 64 → bitAnd a mask / 2 ^ k % 2 ≡ bitAnd b mask / 2 ^ k % 2
     each k l = go k l (hasBit mask k) refl
 
-both : (a b : Bool) → (a && b) ≡ true → (a ≡ true) × (b ≡ true)
+pub both : (a b : Bool) → (a && b) ≡ true → (a ≡ true) × (b ≡ true)
 both true b e = (refl, e)
 both false b e = absurd (true≢false (sym e))
 

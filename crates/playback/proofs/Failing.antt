@@ -19,7 +19,7 @@ use Rattle.sequence.specs.Sequence.{stepsOf}
 use Rattle.sequence.specs.declared.Step.{Step}
 use Rattle.sequence.specs.declared.Sequence.{Sequence}
 use Rattle.playback.specs.Pairs.{pairs}
-use Rattle.playback.specs.Verification.{Check, firstFailing, ofSequence, clientChecks, stepChecks, readyChecks, checksOf, verifyOf}
+use Rattle.playback.specs.Verification.{Check, Rule, firstFailing, ofSequence, clientChecks, stepChecks, readyChecks, checksBy}
 use Rattle.playback.proofs.Pairs.{length-pairs, getD-pairs}
 
 -- the checks' numbers are 7 to 12
@@ -58,9 +58,9 @@ numbered-of c l k = go (isUsed c)
     go true = k
     go false = tt
 
-pub client-numbered : (x : Client × ClientRecord) → Numbered (clientChecks x)
+pub client-numbered : (agree : Rule) (x : Client × ClientRecord) → Numbered (clientChecks agree x)
 unfolding clientChecks
-client-numbered x = numbered-of (x .1) _ ((omega arith, omega arith), ((omega arith, omega arith), ((omega arith, omega arith), tt)))
+client-numbered agree x = numbered-of (x .1) _ ((omega arith, omega arith), ((omega arith, omega arith), ((omega arith, omega arith), tt)))
 
 pub step-numbered : (slots : List Client) (s : Step) → Numbered (stepChecks slots s)
 unfolding stepChecks
@@ -70,11 +70,11 @@ pub ready-numbered : (x : Client × ClientRecord) → Numbered (readyChecks x)
 unfolding readyChecks
 ready-numbered x = numbered-of (x .1) _ ((omega arith, omega arith), tt)
 
-pub checks-numbered : (slots : List Client) (q : Sequence) → Numbered (checksOf slots q)
-unfolding checksOf
-checks-numbered slots q = (
+pub checks-numbered : (agree : Rule) (slots : List Client) (q : Sequence) → Numbered (checksBy agree slots q)
+unfolding checksBy
+checks-numbered agree slots q = (
   (omega arith, omega arith),
-  numbered-append (flatMap clientChecks (pairs slots (q .records))) _ (numbered-all clientChecks client-numbered (pairs slots (q .records)))
+  numbered-append (flatMap (clientChecks agree) (pairs slots (q .records))) _ (numbered-all (clientChecks agree) (client-numbered agree) (pairs slots (q .records)))
       (numbered-append (flatMap (stepChecks slots) (stepsOf q)) _ (numbered-all (stepChecks slots) (step-numbered slots) (stepsOf q))
       (numbered-all readyChecks ready-numbered (pairs slots (q .records)))),
 )
@@ -118,9 +118,9 @@ ready-is slot c = go (isUsed c) (eqb (slot .report) readyReport)
 
 -- ---- the checks of a start: which list is asked
 
-module _ (slots : List Client) (q : Sequence) where
+module _ (agree : Rule) (slots : List Client) (q : Sequence) where
   abbrev clients : List Check
-  clients = flatMap clientChecks (pairs slots (q .records))
+  clients = flatMap (clientChecks agree) (pairs slots (q .records))
 
   abbrev steps : List Check
   steps = flatMap (stepChecks slots) (stepsOf q)
@@ -129,7 +129,7 @@ module _ (slots : List Client) (q : Sequence) where
   reports = flatMap readyChecks (pairs slots (q .records))
 
   clients-numbered : Numbered clients
-  clients-numbered = numbered-all clientChecks client-numbered (pairs slots (q .records))
+  clients-numbered = numbered-all (clientChecks agree) (client-numbered agree) (pairs slots (q .records))
 
   pub by-client : (r : ℕ) → firstFailing clients ≡ r → (r ≡ 0 → ⊥) → r ≡ firstFailing (clients ++ steps)
   by-client r e h = sym (found clients steps (λ k. h (sym e ∙ k)) ∙ e)
@@ -137,19 +137,19 @@ module _ (slots : List Client) (q : Sequence) where
   pub by-step : firstFailing clients ≡ 0 → (r : ℕ) → firstFailing steps ≡ r → r ≡ firstFailing (clients ++ steps)
   by-step e r f = sym (passed clients steps clients-numbered e ∙ f)
 
-  pub no-step : q .count ≡ 0 → noStep ≡ verifyOf slots q
-  unfolding pick firstFailing checksOf verifyOf
+  pub no-step : q .count ≡ 0 → noStep ≡ firstFailing (checksBy agree slots q)
+  unfolding pick firstFailing checksBy
   no-step e = rw (eq-eqb _ _ e)
 
   module _ (z : q .count ≡ 0 → ⊥) (a : ℕ) (e : a ≡ firstFailing (clients ++ steps)) where
-    all : verifyOf slots q ≡ firstFailing ((clients ++ steps) ++ reports)
-    unfolding pick firstFailing checksOf verifyOf
+    all : firstFailing (checksBy agree slots q) ≡ firstFailing ((clients ++ steps) ++ reports)
+    unfolding pick firstFailing checksBy
     all = rw (ne-eqb _ _ z) (ap firstFailing (sym (append-assoc clients steps reports)))
 
-    pub by-slot : (a ≡ 0 → ⊥) → a ≡ verifyOf slots q
+    pub by-slot : (a ≡ 0 → ⊥) → a ≡ firstFailing (checksBy agree slots q)
     by-slot h = e ∙ sym (all ∙ found (clients ++ steps) reports (λ k. h (e ∙ k)))
 
-    pub by-ready : a ≡ 0 → (r : ℕ) → r ≡ firstFailing reports → r ≡ verifyOf slots q
+    pub by-ready : a ≡ 0 → (r : ℕ) → r ≡ firstFailing reports → r ≡ firstFailing (checksBy agree slots q)
     by-ready h r g =
         g
         ∙ sym

@@ -6,6 +6,7 @@ pub mod Fill
 pub mod Leaves
 pub mod Verifies
 pub mod Agrees
+pub mod Holding
 pub mod Changes
 pub mod Framing
 pub mod Cases

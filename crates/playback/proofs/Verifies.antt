@@ -11,7 +11,7 @@ use Rattle.octets.specs.Pick.{pick}
 use Rattle.client.specs.Clients.{blankSlot}
 use Rattle.client.specs.declared.Client.{Client}
 use Rattle.sequence.specs.declared.Step.{Step}
-use Rattle.playback.specs.Verification.{Check, firstFailing, isListed, isInPool, checksOf, verifyOf}
+use Rattle.playback.specs.Verification.{Check, firstFailing, namesAgree, isListed, isInPool, checksOf, verifyOf}
 use Rattle.playback.specs.Promises.{EveryHolds, FirstFails, Verifies}
 use Rattle.playback.proofs.Failing.{Numbered, checks-numbered}
 
@@ -49,8 +49,8 @@ pub verifies : Verifies
 unfolding verifyOf
 verifies = record {
   starts = λ slots q h. starts (checksOf slots q) h;
-  only = λ slots q e. only (checksOf slots q) (checks-numbered slots q) e;
+  only = λ slots q e. only (checksOf slots q) (checks-numbered namesAgree slots q) e;
   names = λ slots q h. names (checksOf slots q) h;
-  numbers = λ slots q. numbers (checksOf slots q) (checks-numbered slots q);
+  numbers = λ slots q. numbers (checksOf slots q) (checks-numbered namesAgree slots q);
   bound = bound;
 }

@@ -31,9 +31,13 @@ firstFailing (c ∷ cs) = let later : ℕ = firstFailing cs in pick (c .0) later
 abbrev pub agreeUnder : ℕ → ℕ → ℕ → Bool
 agreeUnder mask a b = eqb (bitAnd a mask) (bitAnd b mask)
 
--- the NAMEs of a client, loaded and recorded: "NAMEs agree if they agree on every bit set in the loaded pool's mask. The master NAME must agree in all
+-- a rule of 9: whether the NAMEs of a client, loaded and recorded, agree
+abbrev pub Rule : Type 0
+Rule = Client → ClientRecord → Bool
+
+-- the rule that is in force: "NAMEs agree if they agree on every bit set in the loaded pool's mask. The master NAME must agree in all
 -- 64 bits."
-abbrev pub namesAgree : Client → ClientRecord → Bool
+abbrev pub namesAgree : Rule
 namesAgree s c = agreeUnder (s .profile .mask) (s .name) (c .name) && eqb (s .profile .master) (c .master)
 
 -- ---- labels
@@ -77,8 +81,8 @@ unfoldable pub ofSequence : ClientRecord → List Check → List Check
 ofSequence c checks = pick (isUsed c) checks []
 
 -- "8 a client of the sequence is not enabled", "9 a NAME differs", "10 a label differs"
-unfoldable pub clientChecks : Client × ClientRecord → List Check
-clientChecks x = ofSequence (x .1) ((isEnabled (x .0), notEnabled) ∷ (namesAgree (x .0) (x .1), nameDiffers) ∷ (labelsAgree (x .0) (x .1), labelDiffers) ∷ [])
+unfoldable pub clientChecks : Rule → Client × ClientRecord → List Check
+clientChecks agree x = ofSequence (x .1) ((isEnabled (x .0), notEnabled) ∷ (agree (x .0) (x .1), nameDiffers) ∷ (labelsAgree (x .0) (x .1), labelDiffers) ∷ [])
 
 -- "11 function or state not in the loaded pool"
 unfoldable pub stepChecks : List Client → Step → List Check
@@ -89,12 +93,15 @@ unfoldable pub readyChecks : Client × ClientRecord → List Check
 readyChecks x = ofSequence (x .1) ((eqb (x .0 .report) readyReport, notReady) ∷ [])
 
 -- "7; then for each slot of the sequence, lowest first, 8, 9 and 10 before the next slot; then by step 11; then by slot 12"
-unfoldable pub checksOf : List Client → Sequence → List Check
-checksOf slots q =
+unfoldable pub checksBy : Rule → List Client → Sequence → List Check
+checksBy agree slots q =
     (not (eqb (q .count) 0), noStep)
-    ∷ flatMap clientChecks (pairs slots (q .records))
+    ∷ flatMap (clientChecks agree) (pairs slots (q .records))
     ++ (flatMap (stepChecks slots) (stepsOf q)
     ++ flatMap readyChecks (pairs slots (q .records)))
+
+abbrev pub checksOf : List Client → Sequence → List Check
+checksOf slots q = checksBy namesAgree slots q
 
 unfoldable pub verifyOf : List Client → Sequence → ℕ
 verifyOf slots q = firstFailing (checksOf slots q)

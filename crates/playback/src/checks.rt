@@ -76,7 +76,7 @@ fn labels_agree(client: Client, recorded: ClientRecord) -> bool
 
 // 8, 9, 10; done also where the slot is not one of the sequence.
 fn client_check(client: Client, recorded: ClientRecord) -> u8
-    ensures { λ r. ⌜ r ≡ firstFailing (clientChecks (client, recorded)) ⌝ }
+    ensures { λ r. ⌜ r ≡ firstFailing (clientChecks namesAgree (client, recorded)) ⌝ }
 {
     if recorded.used == 0 {
         return DONE;
@@ -133,7 +133,7 @@ fn some_missing(profile: Profile, slot: usize, steps: [Step; MOST_STEPS], count:
 
 // 8, 9 and 10 by slot, then 11. A slot is copied once: for its client's checks, and to look for its steps.
 pub fn first_check(slots: [Client; SLOTS], sequence: Sequence) -> u8
-    ensures { λ r. ⌜ r ≡ firstFailing (flatMap clientChecks (pairs slots (sequence .records)) ++ flatMap (stepChecks slots) (stepsOf sequence)) ⌝ }
+    ensures { λ r. ⌜ r ≡ firstFailing (flatMap (clientChecks namesAgree) (pairs slots (sequence .records)) ++ flatMap (stepChecks slots) (stepsOf sequence)) ⌝ }
 {
     let records = sequence.records;
     let steps = sequence.steps;

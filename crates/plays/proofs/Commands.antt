@@ -1,27 +1,26 @@
 -- The TANs and the bytes of the commands.
 use mathlib.Core.Path.{_≡_, refl, sym, ap, _∙_, subst}
-use mathlib.Core.Bool.{Bool, true, false, not}
-use mathlib.Core.List.{List, [], _∷_, _++_, flatMap}
+use mathlib.Core.Bool.{Bool, true, false}
+use mathlib.Core.List.{List, _∷_}
 use Prim.Native.Nat.{ℕ, zero, suc, _+_, _%_, _≤_, _<_, min}
 use native.Mathlib.Omega.{arith}
-use borrow.Author.Tests.{eqb-false, not-true, ltb-true, leb-true, leb-false}
-use lib.Dec.{eqb, leb, ltb}
+use borrow.Author.Tests.{eqb-false, not-true, leb-true, leb-false}
+use lib.Dec.{leb}
 use lib.ListN.{length, getD, length-take}
 use lib.Seq.{getD-take}
 use Rattle.octets.specs.Pick.{pick}
 use Rattle.octets.specs.Octets as octets
+use Rattle.arrays.proofs.Every.{every-at}
 use Rattle.message.specs.Messages.{octetOf, messageBytes}
-use Rattle.profile.specs.{Profile.trigger, Profile.hasState, declared.Profile.Profile}
-use Rattle.client.specs.declared.Client.{Client}
 use Rattle.sequence.specs.Sequence.{mostSteps, blankStep, lengthOf, stepsOf}
 use Rattle.sequence.specs.declared.Step.{Step}
 use Rattle.sequence.specs.declared.Sequence.{Sequence}
-use Rattle.recording.proofs.Steps.{both}
 use Rattle.playback.specs.State.{blankPlayback}
 use Rattle.playback.specs.Tick.{nextTan}
 use Rattle.playback.specs.Frames.{frameOf}
 use Rattle.playback.specs.Promises.{EveryHolds}
-use Rattle.playback.specs.Verification.{Check, isListed, isInPool, clientChecks, stepChecks, checksOf}
+use Rattle.playback.specs.Verification.{namesAgree, stepChecks, checksBy}
+use Rattle.playback.proofs.Holding.{steps-hold, step-listed}
 use Rattle.playback.proofs.Framing.{framing}
 use Rattle.replay.specs.Run.{Whole, raised}
 use Rattle.master.specs.declared.Master.{Master}
@@ -52,26 +51,6 @@ raised-is tan (suc n) h =
 
 -- ---- the steps of a sequence that may start: "11 function or state not in the loaded pool", and a state is at most 63
 
-later-hold : (a b : List Check) → EveryHolds (a ++ b) → EveryHolds b
-later-hold [] b h = h
-later-hold (c ∷ a) b h = later-hold a b (h .1)
-
-step-holds : (slots : List Client) (l : List Step) (rest : List Check) (i : ℕ) → i < length l → EveryHolds (flatMap (stepChecks slots) l ++ rest)
-    → isInPool slots (getD l i blankStep) ≡ true
-unfolding stepChecks flatMap
-step-holds slots [] rest i k h = absurd (omega arith)
-step-holds slots (s ∷ l) rest zero k h = h .0
-step-holds slots (s ∷ l) rest (suc i) k h = step-holds slots l rest i (omega arith) (h .1)
-
-small-listed : (pool : Profile) (function state : ℕ) → isListed pool function state ≡ true → state < 64
-unfolding isListed
-small-listed pool function state h =
-    ltb-true state 64 (both (ltb state 64) (not (eqb (trigger pool function) 0)) (both _ (hasState pool function state) h .0) .0)
-
-small-state : (slots : List Client) (s : Step) → isInPool slots s ≡ true → s .state < 64
-unfolding isInPool
-small-state slots s h = small-listed _ (s .function) (s .state) (both (ltb (s .slot) 8) _ h .1)
-
 pub steps-taken : (q : Sequence) (i : ℕ) → i < lengthOf q → getD (stepsOf q) i blankStep ≡ getD (q .steps) i blankStep
 unfolding stepsOf
 steps-taken q i h = getD-take (q .count) (q .steps) i blankStep (omega (arith, h))
@@ -81,16 +60,15 @@ unfolding stepsOf
 steps-count q w = omega (arith, w, length-take (q .count) (q .steps))
 
 state-few : (b : Master) → Whole (b .sequence) → apply b start .number ≡ 0 → (i : ℕ) → i < lengthOf (b .sequence) → stepAt b i .state < 64
-unfolding checksOf
 state-few b w z i h =
-    let c = start-exactly .only b z .1 in
-    small-state (b .slots) (stepAt b i)
-    (subst (λ (x : Step). isInPool (b .slots) x ≡ true) (steps-taken (b .sequence) i h)
-    (step-holds (b .slots) (stepsOf (b .sequence)) _ i (omega (arith, h, steps-count (b .sequence) w)) (later-hold (flatMap clientChecks _) _ (c .1))))
+    let here = every-at (λ (x : Step). EveryHolds (stepChecks (b .slots) x)) (stepsOf (b .sequence)) i blankStep (omega (arith, h, steps-count (b .sequence) w))
+    (steps-hold namesAgree (b .slots) (b .sequence) (start-exactly .only b z .1)) in
+    step-listed (b .slots) (stepAt b i)
+    (subst (λ (x : Step). EveryHolds (stepChecks (b .slots) x)) (steps-taken (b .sequence) i h) here) .1
 
 -- "7 sequence has no step"
 some-step : (b : Master) → apply b start .number ≡ 0 → 0 < lengthOf (b .sequence)
-unfolding checksOf
+unfolding checksBy
 some-step b z =
     let n = eqb-false (b .sequence .count) 0 (not-true _ (start-exactly .only b z .1 .0)) in
     go (b .sequence .count) n

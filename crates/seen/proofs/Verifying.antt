@@ -23,7 +23,7 @@ use Rattle.sequence.specs.declared.Sequence.{Sequence}
 use Rattle.recording.specs.Kept.{isOf}
 use Rattle.recording.specs.Promises.{SoundSequence}
 use Rattle.playback.specs.Pairs.{pairs}
-use Rattle.playback.specs.Verification.{Check, firstFailing, namesAgree, sameLabel, labelsAgree, isListed, isInPool, ofSequence, clientChecks, stepChecks, readyChecks, checksOf, verifyOf}
+use Rattle.playback.specs.Verification.{Check, firstFailing, namesAgree, sameLabel, labelsAgree, isListed, isInPool, ofSequence, clientChecks, stepChecks, readyChecks, checksBy, checksOf, verifyOf}
 use Rattle.playback.proofs.Agrees.{agrees}
 use Rattle.playback.proofs.Pairs.{length-pairs, getD-pairs}
 use Rattle.playback.proofs.Verifies.{verifies}
@@ -126,7 +126,7 @@ module _ (m : Master) (g : Given m) where
 
   slot-tells :
       (slot : ℕ) → slot < 8 → (d : ℕ) (rest : ℕ → Type 0) → Tells d rest
-      → Tells (fails (clientChecks (slotAt m slot, recordAt m slot)) d) (slotChecks m slot rest)
+      → Tells (fails (clientChecks namesAgree (slotAt m slot, recordAt m slot)) d) (slotChecks m slot rest)
   unfolding clientChecks ofSequence
   slot-tells slot l d rest t =
       let u = used slot l in
@@ -147,13 +147,13 @@ module _ (m : Master) (g : Given m) where
 
   slots-tell :
       (n slot : ℕ) → slot + n ≡ 8 → (d : ℕ) (rest : ℕ → Type 0) → Tells d rest
-      → Tells (fails (flatMap clientChecks (drop slot clients)) d) (slotsFrom m slot n rest)
+      → Tells (fails (flatMap (clientChecks namesAgree) (drop slot clients)) d) (slotsFrom m slot n rest)
   unfolding flatMap
   slots-tell zero slot e d rest t = rw (drop-of-length-le clients {i = slot} (omega (arith, e, eight-pairs))) t
   slots-tell (suc n) slot e d rest t =
       let l : slot < 8 = omega arith in
       let later = slots-tell n (suc slot) (omega arith) d rest t in
-      rw (drop-cons clients slot (noSlot, blankRecord) (omega (arith, l, eight-pairs)), pair-at slot l, fails-append (clientChecks (slotAt m slot, recordAt m slot)) (flatMap clientChecks (drop (suc slot) clients)) d)
+      rw (drop-cons clients slot (noSlot, blankRecord) (omega (arith, l, eight-pairs)), pair-at slot l, fails-append (clientChecks namesAgree (slotAt m slot, recordAt m slot)) (flatMap (clientChecks namesAgree) (drop (suc slot) clients)) d)
       (slot-tells slot l _ _ later)
 
   -- ---- 11
@@ -213,7 +213,7 @@ module _ (m : Master) (g : Given m) where
   -- ---- all of them
 
   pub verified : Tells (verifyOf (m .slots) q) (verification m)
-  unfolding pick checksOf verifyOf
+  unfolding pick checksBy verifyOf
   verified =
       subst (λ (c : ℕ). Tells c (verification m)) (sym is)
       (first _ _ 7 _ _ (equal (q .count) 0)
@@ -225,13 +225,13 @@ module _ (m : Master) (g : Given m) where
 
       is : firstFailing (checksOf (m .slots) q)
           ≡ pick (eqb (q .count) 0) 7
-          (fails (flatMap clientChecks clients) (pick (some (λ (s : Step). not (isInPool (m .slots) s)) (stepsOf q)) 11 (pick (some isIdle clients) 12 0)))
+          (fails (flatMap (clientChecks namesAgree) clients) (pick (some (λ (s : Step). not (isInPool (m .slots) s)) (stepsOf q)) 11 (pick (some isIdle clients) 12 0)))
       is =
           failing-is (checksOf (m .slots) q)
           ∙ turned (eqb (q .count) 0) _
           ∙ ap (pick (eqb (q .count) 0) 7)
-          (fails-append (flatMap clientChecks clients) _ 0
-          ∙ ap (fails (flatMap clientChecks clients))
+          (fails-append (flatMap (clientChecks namesAgree) clients) _ 0
+          ∙ ap (fails (flatMap (clientChecks namesAgree) clients))
           (fails-append (flatMap (stepChecks (m .slots)) (stepsOf q)) _ 0
           ∙ same-fail (stepChecks (m .slots)) (λ (s : Step). not (isInPool (m .slots) s)) 11 step-fail (stepsOf q) _
           ∙ ap (pick (some (λ (s : Step). not (isInPool (m .slots) s)) (stepsOf q)) 11) (same-fail readyChecks isIdle 12 ready-fail clients 0)))
