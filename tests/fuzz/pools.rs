@@ -14,7 +14,7 @@ use std::rc::Rc;
 const SEED: u64 = 11_783;
 /// Samples of clients; the last has a pool of any size.
 pub const SAMPLES: usize = 5;
-/// The NAME mask of the first, which has bits of either kind.
+/// The NAME mask of the first, which has bits of either kind; its master NAME is its own NAME.
 const MASK: u64 = 0xFF00_FFFF_FFFF_FFFF;
 /// The preferred triggers; each is met in the first pools.
 const TRIGGERS: [u8; 3] = [255, 2, 1];
@@ -47,6 +47,7 @@ impl Pools {
             functions.zip(TRIGGERS.iter().cycle().skip(place)).for_each(|(function, &trigger)| function.preferred_trigger = trigger);
         }
         samples[0].pool.base().mask = MASK;
+        samples[0].pool.base().master_name = samples[0].name;
         Pools { clients: samples.iter().map(|sample| variants(sample, &mut random)).collect() }
     }
 

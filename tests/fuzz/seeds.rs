@@ -2,6 +2,7 @@
 
 use crate::decode::op::*;
 use crate::entry::{MASTER, MESSAGE, POOL};
+use crate::samples::CHANGES;
 
 /// Reports by their place in the table of decode.rs.
 const READY: u8 = 0;
@@ -36,6 +37,8 @@ const ALL_STARTED: &[u8] = &[START, TICKS, 3, 7, ANSWER, 0, STARTED, ANSWER, 1, 
 /// Client 0 is lost and comes back; the last byte says changed in what.
 const BACK: [u8; 19] =
     [LOST, 0, ATTACH, 0, 0, 0, ENABLE, 0, ALL_REPORT, READY, START, TICK, 0, ABORT, ALL_REPORT, ABORTS, ALL_REPORT, READY, READERS];
+/// So many ways a client comes back, itself among them; damaged ones follow.
+const CHANGED: u8 = CHANGES.len() as u8;
 /// To tick 36,000.
 const TO_THE_END: &[u8] = &[SKIP, 0, 0xA0, 0x8C, TICKS, 0, 4];
 
@@ -97,8 +100,8 @@ fn playbacks() -> Vec<Vec<u8>> {
         master(&[CLIENTS, full, in_turn, &[ABORT, ALL_REPORT, ABORTS, ALL_REPORT, READY], at_once, at_once, at_once]),
         master(&[CLIENTS, full, &again.repeat(4)]),
         master(&[CLIENTS, RECORDING, &back(0), &back(1), &back(2), &back(3)]),
-        master(&[CLIENTS, RECORDING, &back(4), &back(5), &back(6)]),
-        master(&[CLIENTS, RECORDING, &back(8), &back(10), &back(11)]),
+        master(&[CLIENTS, RECORDING, &back(4), &back(5), &back(6), &back(7)]),
+        master(&[CLIENTS, RECORDING, &back(8), &back(10), &back(12), &back(13)]),
     ]
 }
 
@@ -110,7 +113,7 @@ fn others() -> Vec<Vec<u8>> {
     let alone = &[DISABLE, 1, RECORD, REPORT, 8, INDICATE, 0, VALUE, 1, STOP];
     let aborted = |then: [u8; 2]| [&[REPORT, 0, START, REPORT, 32][..], &then].concat();
     let orders = &[LEND, 0, ENABLE, 7, LEND, 0, RAW, 0, 1, 0x32, LEND, 40, DISABLE, 0, LEND, 0, TICK, 9, TICK, 9, LEND, 100, TICK, 0, REPORT, 47];
-    let faults: Vec<u8> = (0..24).flat_map(|place| [ATTACH, 5, 2, 12 + 2 * place]).collect();
+    let faults: Vec<u8> = (0..24).flat_map(|place| [ATTACH, 5, 2, CHANGED + 2 * place]).collect();
     let refused = &[LEND, 0, TICK, 0, FAR, 2, ENABLE, 0, SPOIL, 0, 1, ANSWER, 0, 0, RAW, 0, 3, 0x32, 5, 2, OFF, CANCEL, LOST, 7, ABORT, STOP];
     vec![
         master(&[NOT_NOW, &[STOP, CANCEL, TICK, 0, INDICATE, 0, 0, 0]]),
@@ -126,7 +129,7 @@ fn others() -> Vec<Vec<u8>> {
 /// Legal ones, one with a byte changed, one of zeros, and damaged ones.
 fn pools() -> Vec<Vec<u8>> {
     let mut seeds = vec![vec![POOL, 0, 0], vec![POOL, 1, 0, 0, 30, 0, 65], vec![POOL, 4, 0], [&[POOL, 128, 0][..], &[0; 30]].concat()];
-    seeds.extend((0..24).map(|place| vec![POOL, 2, 12 + 2 * place]));
+    seeds.extend((0..24).map(|place| vec![POOL, 2, CHANGED + 2 * place]));
     seeds
 }
 

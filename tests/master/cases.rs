@@ -27,9 +27,10 @@ pub fn all(run: &mut Run) {
     command_and_answer(run);
     state_commands(run);
     late_client(run);
+    neighbours(run);
 }
 
-fn pool() -> Vec<u8> {
+fn legal_pool() -> Pool {
     let random = &mut Random::new(14);
     let shape = Shape { functions: 2, states: 1, shortest: 1, longest: 1, unlisted: 0 };
     let mut pool = Pool::legal(random, shape, FULL);
@@ -38,7 +39,11 @@ fn pool() -> Vec<u8> {
         function.function_id = id;
         function.preferred_trigger = trigger;
     }
-    pool.bytes()
+    pool
+}
+
+fn pool() -> Vec<u8> {
+    legal_pool().bytes()
 }
 
 fn must_be<T: PartialEq + Debug>(what: &str, given: T, meant: T) {
@@ -273,4 +278,55 @@ fn late_client(run: &mut Run) {
     must_be("in abort", run.model.state == State::Abort, true);
     done(run, Event::Report { slot: 0, report: 0 });
     must_be("in ready", run.model.state == State::Ready, true);
+}
+
+/// A drill, a sister of it whose identity number is another, and one of another make: the mask wants the make.
+const DRILL: u64 = 0xA008_8100_2460_1267;
+const SISTER: u64 = 0xA008_8100_2460_1268;
+const OTHER_MAKE: u64 = 0xA008_8100_2480_1268;
+const BUT_IDENTITY: u64 = 0xFFFF_FFFF_FFE0_0000;
+
+/// The client's NAME and the master NAME in its pool, when the sequence was recorded and now; and what start gives.
+const NEIGHBOURS: [((u64, u64), (u64, u64), u8); 13] = [
+    // "where the stored master NAME equals the stored client NAME, and the loaded one equals the loaded client NAME, the mask applies to both"
+    ((DRILL, DRILL), (DRILL, DRILL), 0),
+    ((DRILL, DRILL), (SISTER, SISTER), 0),
+    ((SISTER, SISTER), (DRILL, DRILL), 0),
+    ((DRILL, DRILL), (OTHER_MAKE, OTHER_MAKE), 9),
+    // "Otherwise all 64 bits count, as before."
+    ((DRILL, DRILL), (DRILL, SISTER), 9),
+    ((DRILL, DRILL), (SISTER, DRILL), 0),
+    ((DRILL, SISTER), (DRILL, DRILL), 9),
+    ((DRILL, SISTER), (SISTER, SISTER), 0),
+    ((DRILL, SISTER), (SISTER, DRILL), 9),
+    ((DRILL, SISTER), (DRILL, SISTER), 0),
+    ((DRILL, OTHER_MAKE), (SISTER, OTHER_MAKE), 0),
+    ((DRILL, OTHER_MAKE), (SISTER, SISTER), 9),
+    ((DRILL, DRILL), (DRILL, OTHER_MAKE), 9),
+];
+
+/// Document 02, request 2.
+fn neighbours(run: &mut Run) {
+    for (stored, loaded, number) in NEIGHBOURS {
+        run.begin(0);
+        done(run, Event::On);
+        named_client(run, stored);
+        recording(run);
+        one_shot(run, TIME, 0);
+        done(run, Event::Stop);
+        done(run, Event::Lost { slot: 0 });
+        named_client(run, loaded);
+        let given = run.event(Event::Start).number;
+        must_be(&format!("start of {loaded:016X?}, recorded as {stored:016X?}"), given, number);
+    }
+}
+
+/// In slot 0, reporting ready: its NAME, and the master NAME in its pool.
+fn named_client(run: &mut Run, (name, master_name): (u64, u64)) {
+    let mut pool = legal_pool();
+    pool.base().master_name = master_name;
+    pool.base().mask = BUT_IDENTITY;
+    done(run, Event::Attach { slot: 0, name, pool: Rc::new(pool.bytes()) });
+    done(run, Event::Enable { slot: 0, room: 8 });
+    done(run, Event::Report { slot: 0, report: 1 });
 }

@@ -307,8 +307,16 @@ fn ended(before: &Master, after: &Master, names: &mut Vec<String>) {
 
 fn started(before: &Master, names: &mut Vec<String>) {
     for (&slot, recorded) in &before.sequence.clients {
-        if before.client(slot).map(|client| client.name) != Some(recorded.name) {
-            names.push("started, a NAME differs outside the mask".to_string());
+        let client = before.client(slot).unwrap();
+        let mut name = |name: &str| names.push(format!("started, {name}"));
+        if client.name != recorded.name {
+            name("a NAME differs outside the mask");
+        }
+        match (recorded.master_name == recorded.name, client.pool.master_name == client.name) {
+            (true, true) if client.name != recorded.name => name("the neighbour's identical drill"),
+            (true, false) => name("the master NAME is the client's own as stored only"),
+            (false, true) => name("the master NAME is the client's own as loaded only"),
+            _ => {}
         }
     }
     for step in &before.sequence.steps {

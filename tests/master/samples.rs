@@ -16,7 +16,11 @@ impl Sample {
         let pool = if random.once_in(large_in) { large(random) } else { small(random) };
         let mut sample = Sample { name: random.number(), pool };
         let mask = random.number();
-        sample.pool.base().mask = random.pick(&[0, 1, u64::MAX, u64::MAX, 1 << 63, mask, mask]);
+        let mask = random.pick(&[0, 1, u64::MAX, u64::MAX, 1 << 63, mask, mask]);
+        let other = random.number();
+        let base = sample.pool.base();
+        base.mask = mask;
+        base.master_name = random.pick(&[sample.name, sample.name, sample.name ^ other & !mask, other]);
         sample
     }
 
@@ -61,6 +65,8 @@ pub enum Change {
     NameOutsideMask,
     NameInsideMask,
     MasterName,
+    MasterNameOutsideMask,
+    Neighbour,
     VersionByte,
     VersionLength,
     ConfigurationByte,
@@ -69,13 +75,15 @@ pub enum Change {
     StateMissing,
 }
 
-pub const CHANGES: [Change; 12] = [
+pub const CHANGES: [Change; 14] = [
     Change::Nothing,
     Change::Trigger,
     Change::MaskOnly,
     Change::NameOutsideMask,
     Change::NameInsideMask,
     Change::MasterName,
+    Change::MasterNameOutsideMask,
+    Change::Neighbour,
     Change::VersionByte,
     Change::VersionLength,
     Change::ConfigurationByte,
@@ -99,6 +107,11 @@ pub fn changed(sample: &Sample, change: Change, step: Option<&Step>, random: &mu
             sample.pool.base().mask |= random.pick(&[0, bit, u64::MAX]);
         }
         Change::MasterName => sample.pool.base().master_name ^= 1 << random.below(64),
+        Change::MasterNameOutsideMask => sample.pool.base().master_name ^= random.number() & !mask,
+        Change::Neighbour => {
+            sample.name ^= random.number() & !mask;
+            sample.pool.base().master_name = sample.name;
+        }
         Change::VersionByte => other_byte(&mut sample.pool.base().version_label, random),
         Change::VersionLength => other_length(&mut sample.pool.base().version_label),
         Change::ConfigurationByte => other_byte(&mut sample.pool.base().configuration_label, random),

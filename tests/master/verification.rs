@@ -60,16 +60,24 @@ impl Master {
     }
 }
 
-/// "NAMEs agree if they agree on every bit set in the loaded pool's mask. The master NAME must agree in all 64 bits."
+/// "NAMEs agree if they agree on every bit set in the loaded pool's mask." And of the master NAME, document 02, request 2:
+/// "where the stored master NAME equals the stored client NAME, and the loaded one equals the loaded client NAME, the mask
+/// applies to both. Otherwise all 64 bits count, as before."
 pub fn names_agree(recorded: &Identity, client: &Client) -> Result<(), Refused> {
     let mask = client.pool.mask;
     if recorded.name & mask != client.name & mask {
         return model::refuse_by(9, "NAME");
     }
-    if recorded.master_name != client.pool.master_name {
-        return model::refuse_by(9, "master NAME");
+    let (stored, loaded) = (recorded.master_name, client.pool.master_name);
+    let own = (stored == recorded.name, loaded == client.name);
+    let agree = if own == (true, true) { stored & mask == loaded & mask } else { stored == loaded };
+    match own {
+        _ if agree => Ok(()),
+        _ if stored & mask != loaded & mask => model::refuse_by(9, "master NAME"),
+        (true, _) => model::refuse_by(9, "master NAME, in open bits: the client's own as stored"),
+        (_, true) => model::refuse_by(9, "master NAME, in open bits: the client's own as loaded"),
+        _ => model::refuse_by(9, "master NAME, in open bits: another's"),
     }
-    Ok(())
 }
 
 pub fn labels_agree(recorded: &Identity, client: &Client) -> Result<(), Refused> {

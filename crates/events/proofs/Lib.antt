@@ -9,4 +9,6 @@ pub mod Examples
 pub mod Theorems
 pub mod Starts
 pub mod Playable
+pub mod Rules
+pub mod Neighbour
 pub mod Accepts

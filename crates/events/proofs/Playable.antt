@@ -23,7 +23,7 @@ use Rattle.recording.specs.Kept.{isOf}
 use Rattle.recording.specs.Promises.{SoundSequence}
 use Rattle.recording.proofs.Steps.{both}
 use Rattle.playback.specs.Pairs.{pairs}
-use Rattle.playback.specs.Verification.{Rule, namesAgree, ofSequence, clientChecks, stepChecks, checksBy}
+use Rattle.playback.specs.Verification.{Rule, namesAgree, labelsAgree, ofSequence, clientChecks, stepChecks, checksBy}
 use Rattle.playback.specs.Promises.{EveryHolds}
 use Rattle.playback.proofs.Pairs.{length-pairs, getD-pairs}
 use Rattle.playback.proofs.Holding.{clients-hold, steps-hold, step-listed}
@@ -45,12 +45,14 @@ use Rattle.events.proofs.Calls.{number-is}
 use Rattle.events.proofs.Starts.{start-exactly}
 use Rattle.events.proofs.Regular.{length-steps, given-regular}
 
--- ---- what the checks of a start say
+-- ---- what the checks of a client of the sequence say
 
--- "8 a client of the sequence is not enabled"
-check-enabled : (agree : Rule) (s : Client) (c : ClientRecord) → isUsed c ≡ true → EveryHolds (clientChecks agree (s, c)) → isEnabled s ≡ true
-unfolding pick clientChecks ofSequence
-check-enabled agree s c u h = subst EveryHolds (pick-true (isUsed c) _ _ u) h .0
+-- "8 a client of the sequence is not enabled", "9 a NAME differs", "10 a label differs"
+pub client-holds :
+    (agree : Rule) (s : Client) (c : ClientRecord) → isUsed c ≡ true → EveryHolds (clientChecks agree (s, c))
+    → (isEnabled s ≡ true) × (agree s c ≡ true) × (labelsAgree s c ≡ true)
+unfolding pick ofSequence clientChecks
+client-holds agree s c u h = let (e, (n, (l, _))) = subst EveryHolds (pick-true (isUsed c) _ _ u) h in (e, n, l)
 
 -- ---- eight slots
 
@@ -112,6 +114,14 @@ module _ (agree : Rule) (m : Master) (g : Given m) (c : EveryHolds (checksBy agr
       let n = every-at (λ (x : Step). isOf (s .slot) x ≡ false) (stepsOf q) i blankStep in-steps (none-passes (isOf (s .slot)) (stepsOf q) f) in
       absurd (true≢false (sym (eq-eqb (s .slot) (s .slot) refl) ∙ ap (isOf (s .slot)) (sym (getD-take (q .count) (q .steps) i blankStep l)) ∙ n)))
 
+  pub client-at : (slot : ℕ) → slot < 8 → EveryHolds (clientChecks agree (slotAt m slot, getD (q .records) slot blankRecord))
+  client-at slot k =
+      let e = given-eight m g in
+      subst (λ (x : Client × ClientRecord). EveryHolds (clientChecks agree x))
+      (getD-pairs (m .slots) (q .records) slot noSlot blankRecord (omega (arith, k, e)) (omega (arith, k, sound .slots)))
+      (every-at (λ (x : Client × ClientRecord). EveryHolds (clientChecks agree x)) (pairs (m .slots) (q .records)) slot (noSlot, blankRecord)
+      (omega (arith, k, length-pairs (m .slots) (q .records) 8 e (sound .slots))) (clients-hold agree (m .slots) q c))
+
   at-start : (i : ℕ) → i < q .count → Playable m (getD (q .steps) i blankStep)
   unfolding stepsOf
   at-start i l =
@@ -122,12 +132,8 @@ module _ (agree : Rule) (m : Master) (g : Given m) (c : EveryHolds (checksBy agr
       (subst (λ (x : Step). EveryHolds (stepChecks (m .slots) x)) (getD-take (q .count) (q .steps) i blankStep l)
       (every-at (λ (x : Step). EveryHolds (stepChecks (m .slots) x)) (stepsOf q) i blankStep in-steps (steps-hold agree (m .slots) q c))) in
       let k : s .slot < 8 = here .0 in
-      let e = given-eight m g in
-      let pair = getD-pairs (m .slots) (q .records) (s .slot) noSlot blankRecord (omega (arith, k, e)) (omega (arith, k, sound .slots)) in
-      let at = every-at (λ (x : Client × ClientRecord). EveryHolds (clientChecks agree x)) (pairs (m .slots) (q .records)) (s .slot) (noSlot, blankRecord)
-      (omega (arith, k, length-pairs (m .slots) (q .records) 8 e (sound .slots))) (clients-hold agree (m .slots) q c) in
       record {
-        client = (k, check-enabled agree (slotAt m (s .slot)) _ (used i l k) (subst (λ (x : Client × ClientRecord). EveryHolds (clientChecks agree x)) pair at));
+        client = (k, client-holds agree (slotAt m (s .slot)) _ (used i l k) (client-at (s .slot) k) .0);
         state = here .1;
       }
 

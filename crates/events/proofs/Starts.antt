@@ -32,13 +32,17 @@ module _ (m : Master) where
   unfolding startCall
   is-ready e = eqb-true _ _ (not-false _ (passed _ _ _ _ _ e .allowed))
 
+  -- in ready it is the verification's
+  pub ready-number : m .state ≡ state.ready → apply m start .number ≡ verifyOf (m .slots) (m .sequence)
+  ready-number s = start-number m ∙ verified s
+
   starts : m .state ≡ state.ready → EveryHolds (checksOf (m .slots) (m .sequence)) → apply m start .number ≡ completed
-  starts s h = start-number m ∙ verified s ∙ verifies .starts (m .slots) (m .sequence) h
+  starts s h = ready-number s ∙ verifies .starts (m .slots) (m .sequence) h
 
   only : apply m start .number ≡ completed → (m .state ≡ state.ready) × EveryHolds (checksOf (m .slots) (m .sequence))
   only e =
       let s : m .state ≡ state.ready = is-ready (sym (start-number m) ∙ e) in
-      (s, verifies .only (m .slots) (m .sequence) (sym (verified s) ∙ sym (start-number m) ∙ e))
+      (s, verifies .only (m .slots) (m .sequence) (sym (ready-number s) ∙ e))
 
   playing : apply m start .number ≡ completed → apply m start .master .state ≡ state.playback
   unfolding startCall
@@ -47,8 +51,8 @@ module _ (m : Master) where
   names :
       m .state ≡ state.ready → (apply m start .number ≡ completed → ⊥) → FirstFails (checksOf (m .slots) (m .sequence)) (apply m start .number)
   names s h =
-      rw (start-number m, verified s)
-      (verifies .names (m .slots) (m .sequence) (λ e. h (start-number m ∙ verified s ∙ e)))
+      rw (ready-number s)
+      (verifies .names (m .slots) (m .sequence) (λ e. h (ready-number s ∙ e)))
 
 pub start-exactly : StartExactly
 start-exactly = record { starts = starts; only = only; playing = playing; barred = λ m h. start-number m ∙ barred m h; names = names }

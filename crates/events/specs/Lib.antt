@@ -2,4 +2,5 @@ pub mod Events
 pub mod Examples
 pub mod Demand1
 pub mod Order
+pub mod Neighbour
 pub mod Promises

@@ -1,6 +1,7 @@
 -- All that is promised of the events together, so that none can be left out.
 use Rattle.events.specs.Demand1.{RefusedSame, InTable, NeverRefused, Inactive, StartExactly, NeverCut, NeverBites}
 use Rattle.events.specs.Order.{Ordered}
+use Rattle.events.specs.Neighbour.{Neighbours}
 
 pub record Promises : Type 0 where
   pub refused-same : RefusedSame
@@ -9,5 +10,6 @@ pub record Promises : Type 0 where
   pub never-refused : NeverRefused
   pub inactive : Inactive
   pub start-exactly : StartExactly
+  pub neighbours : Neighbours
   pub never-cut : NeverCut
   pub never-bites : NeverBites

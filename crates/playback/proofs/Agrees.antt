@@ -11,10 +11,11 @@ use lib.Dec.{eqb}
 use lib.Pow.{shr-shr}
 use Rattle.octets.specs.Bits.{hasBit}
 use Rattle.octets.specs.declared.label.Label.{Label}
+use Rattle.octets.proofs.Tests.{pick-true, pick-false}
 use Rattle.client.specs.declared.Client.{Client}
 use Rattle.client.specs.declared.ClientRecord.{ClientRecord}
-use Rattle.playback.specs.Verification.{agreeUnder, namesAgree, sameBytes, sameLabel}
-use Rattle.playback.specs.Promises.{SameNames, Agrees}
+use Rattle.playback.specs.Verification.{agreeUnder, bothOwn, mastersAgree, namesAgree, sameBytes, sameLabel}
+use Rattle.playback.specs.Promises.{SameBits, BothOwn, SameNames, Agrees}
 
 -- ---- bits
 
@@ -42,7 +43,7 @@ same-digit x y h k e = go (eqb y 1) refl
     go true f = let a = eqb-true x 1 (e ∙ f) in let b = eqb-true y 1 f in omega arith
     go false f = let a = eqb-false x 1 (e ∙ f) in let b = eqb-false y 1 f in omega arith
 
-bits : (mask a b : ℕ) → agreeUnder mask a b ≡ true → (k : ℕ) → k < 64 → hasBit mask k ≡ true → hasBit a k ≡ hasBit b k
+pub bits : (mask a b : ℕ) → agreeUnder mask a b ≡ true → SameBits mask a b
 unfolding hasBit
 bits mask a b e k l h =
     let s : bitAnd a mask ≡ bitAnd b mask = eqb-true _ _ e in
@@ -51,7 +52,7 @@ bits mask a b e k l h =
     let q : a / 2 ^ k % 2 ≡ b / 2 ^ k % 2 = omega (arith, and-digit a mask k, and-digit b mask k) in
     rw q
 
-bits-only : (mask a b : ℕ) → mask < 2 ^ 64 → ((k : ℕ) → k < 64 → hasBit mask k ≡ true → hasBit a k ≡ hasBit b k) → agreeUnder mask a b ≡ true
+pub bits-only : (mask a b : ℕ) → mask < 2 ^ 64 → SameBits mask a b → agreeUnder mask a b ≡ true
 unfolding hasBit
 bits-only mask a b h e =
     eq-eqb _ _ (digits 64 (bitAnd a mask) (bitAnd b mask) (omega (arith, and-le-r a mask)) (omega (arith, and-le-r b mask)) each)
@@ -71,13 +72,40 @@ pub both : (a b : Bool) → (a && b) ≡ true → (a ≡ true) × (b ≡ true)
 both true b e = (refl, e)
 both false b e = absurd (true≢false (sym e))
 
-names : (s : Client) (c : ClientRecord) → namesAgree s c ≡ true → SameNames s c
-names s c e =
-    let p = both (agreeUnder (s .profile .mask) (s .name) (c .name)) (eqb (s .profile .master) (c .master)) e in
-    record { bits = bits (s .profile .mask) (s .name) (c .name) (p .0); master = eqb-true _ _ (p .1) }
+-- ---- NAMEs
 
-names-only : (s : Client) (c : ClientRecord) → s .profile .mask < 2 ^ 64 → SameNames s c → namesAgree s c ≡ true
-names-only s c h n = rw (bits-only (s .profile .mask) (s .name) (c .name) h (n .bits), eq-eqb _ _ (n .master))
+module _ (s : Client) (c : ClientRecord) where
+  abbrev mask : ℕ
+  mask = s .profile .mask
+
+  abbrev own : Bool
+  own = bothOwn s c
+
+  pub is-own : own ≡ true → BothOwn s c
+  is-own e = let p = both (eqb (c .master) (c .name)) _ e in (eqb-true _ _ (p .0), eqb-true _ _ (p .1))
+
+  own-is : BothOwn s c → own ≡ true
+  own-is o = rw (eq-eqb _ _ (o .0), eq-eqb _ _ (o .1))
+
+  names : namesAgree s c ≡ true → SameNames s c
+  names e =
+      let p = both (agreeUnder mask (s .name) (c .name)) _ e in
+      record {
+        bits = bits mask (s .name) (c .name) (p .0);
+        masked = λ o. bits mask (s .profile .master) (c .master) (sym (pick-true own _ _ (own-is o)) ∙ p .1);
+        otherwise = λ h. eqb-true _ _ (sym (pick-false own _ _ (not-own own refl h)) ∙ p .1);
+      }
+    where
+      not-own : (b : Bool) → own ≡ b → (BothOwn s c → ⊥) → own ≡ false
+      not-own true e h = absurd (h (is-own e))
+      not-own false e h = e
+
+  names-only : mask < 2 ^ 64 → SameNames s c → namesAgree s c ≡ true
+  names-only h n = rw (bits-only mask (s .name) (c .name) h (n .bits)) (go own refl)
+    where
+      go : (b : Bool) → own ≡ b → mastersAgree own mask (s .profile .master) (c .master) ≡ true
+      go true e = pick-true own _ _ e ∙ bits-only mask (s .profile .master) (c .master) h (n .masked (is-own e))
+      go false e = pick-false own _ _ e ∙ eq-eqb _ _ (n .otherwise (λ o. true≢false (sym (own-is o) ∙ e)))
 
 -- ---- labels
 

@@ -42,10 +42,21 @@ pub record Verifies : Type 0 where
   pub bound :
       (slots : List Client) (s : Step) → s .slot < slotCount → isInPool slots s ≡ isListed (getD slots (s .slot) blankSlot .profile) (s .function) (s .state)
 
--- "NAMEs agree if they agree on every bit set in the loaded pool's mask. The master NAME must agree in all 64 bits."
+-- "agree on every bit set in the .. mask"
+abbrev pub SameBits : ℕ → ℕ → ℕ → Type 0
+SameBits mask a b = (k : ℕ) → k < 64 → hasBit mask k ≡ true → hasBit a k ≡ hasBit b k
+
+-- "the stored master NAME equals the stored client NAME, and the loaded one equals the loaded client NAME"
+abbrev pub BothOwn : Client → ClientRecord → Type 0
+BothOwn s c = (c .master ≡ c .name) × (s .profile .master ≡ s .name)
+
 pub record SameNames (s : Client) (c : ClientRecord) : Type 0 where
-  pub bits : (k : ℕ) → k < 64 → hasBit (s .profile .mask) k ≡ true → hasBit (s .name) k ≡ hasBit (c .name) k
-  pub master : s .profile .master ≡ c .master
+  -- "NAMEs agree if they agree on every bit set in the loaded pool's mask."
+  pub bits : SameBits (s .profile .mask) (s .name) (c .name)
+  -- "where .., the mask applies to both."
+  pub masked : BothOwn s c → SameBits (s .profile .mask) (s .profile .master) (c .master)
+  -- "Otherwise all 64 bits count, as before."
+  pub otherwise : (BothOwn s c → ⊥) → s .profile .master ≡ c .master
 
 -- the tests of NAMEs and labels say no more and no less; a mask has 64 bits
 pub record Agrees : Type 0 where

@@ -1,5 +1,7 @@
 -- 01, "Verification and playback": "Start, from ready: 7; then for each slot of the sequence, lowest first, 8, 9 and 10 before the next slot; then by
--- step 11; then by slot 12. NAMEs agree if they agree on every bit set in the loaded pool's mask. The master NAME must agree in all 64 bits."
+-- step 11; then by slot 12. NAMEs agree if they agree on every bit set in the loaded pool's mask." What follows there, "The master NAME must agree in all
+-- 64 bits.", 02, request 2, has changed: "where the stored master NAME equals the stored client NAME, and the loaded one equals the loaded client NAME,
+-- the mask applies to both. Otherwise all 64 bits count, as before."
 use Prim.Native.Nat.{ℕ, _-_, min}
 use mathlib.Core.Bool.{Bool, true, false, not, _&&_}
 use mathlib.Core.List.{List, [], _∷_, _++_, flatMap}
@@ -25,20 +27,28 @@ unfoldable pub firstFailing : List Check → ℕ
 firstFailing [] = completed
 firstFailing (c ∷ cs) = let later : ℕ = firstFailing cs in pick (c .0) later (c .1)
 
--- ---- NAMEs
+-- ---- NAMEs: loaded, of the client that is attached in the slot, and stored, in the sequence's record of the client
 
 -- "agree on every bit set in the .. mask"
 abbrev pub agreeUnder : ℕ → ℕ → ℕ → Bool
 agreeUnder mask a b = eqb (bitAnd a mask) (bitAnd b mask)
 
--- a rule of 9: whether the NAMEs of a client, loaded and recorded, agree
+-- a rule of 9: whether the NAMEs of a client agree
 abbrev pub Rule : Type 0
 Rule = Client → ClientRecord → Bool
 
--- the rule that is in force: "NAMEs agree if they agree on every bit set in the loaded pool's mask. The master NAME must agree in all
--- 64 bits."
+-- "where the stored master NAME equals the stored client NAME, and the loaded one equals the loaded client NAME"
+abbrev pub bothOwn : Rule
+bothOwn s c = eqb (c .master) (c .name) && eqb (s .profile .master) (s .name)
+
+-- "the mask applies to both. Otherwise all 64 bits count, as before."
+abbrev pub mastersAgree : Bool → ℕ → ℕ → ℕ → Bool
+mastersAgree own mask loaded stored = pick own (agreeUnder mask loaded stored) (eqb loaded stored)
+
+-- the rule that is in force: "NAMEs agree if they agree on every bit set in the loaded pool's mask.", and the master NAMEs agree
 abbrev pub namesAgree : Rule
-namesAgree s c = agreeUnder (s .profile .mask) (s .name) (c .name) && eqb (s .profile .master) (c .master)
+namesAgree s c =
+    agreeUnder (s .profile .mask) (s .name) (c .name) && mastersAgree (bothOwn s c) (s .profile .mask) (s .profile .master) (c .master)
 
 -- ---- labels
 

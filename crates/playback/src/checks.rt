@@ -9,7 +9,7 @@ ghost use Rattle.arrays.specs.Arrays.{some};
 ghost use Rattle.client.specs.Clients.{slotCount};
 ghost use Rattle.sequence.specs.Sequence.{stepsOf};
 ghost use Rattle.playback.specs.Pairs.{pairs};
-ghost use Rattle.playback.specs.Verification.{firstFailing, agreeUnder, namesAgree, sameBytes, sameLabel, labelsAgree, askedSlot, isMissing, clientChecks, stepChecks, readyChecks};
+ghost use Rattle.playback.specs.Verification.{firstFailing, agreeUnder, mastersAgree, namesAgree, sameBytes, sameLabel, labelsAgree, askedSlot, isMissing, clientChecks, stepChecks, readyChecks};
 use arrays::at_most;
 use client::Client;
 use client::ClientRecord;
@@ -35,11 +35,23 @@ fn agree_under(mask: u64, a: u64, b: u64) -> bool
     (a & mask) == (b & mask)
 }
 
+// The master NAMEs agree under the mask where each is its client's own NAME, and else in all 64 bits.
+fn masters_agree(own: bool, mask: u64, loaded: u64, stored: u64) -> bool
+    ensures { λ r. ⌜ r ≡ mastersAgree own mask loaded stored ⌝ }
+{
+    if own {
+        return agree_under(mask, loaded, stored);
+    }
+    loaded == stored
+}
+
 fn names_agree(client: Client, recorded: ClientRecord) -> bool
     ensures { λ r. ⌜ r ≡ namesAgree client recorded ⌝ }
 {
     let profile = client.profile;
-    agree_under(profile.mask, client.name, recorded.name) & (profile.master == recorded.master)
+    let own = (recorded.master == recorded.name) & (profile.master == client.name);
+    agree_under(profile.mask, client.name, recorded.name)
+        & masters_agree(own, profile.mask, profile.master, recorded.master)
 }
 
 fn same_bytes(a: [u8; 63], b: [u8; 63]) -> bool

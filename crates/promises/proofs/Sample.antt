@@ -47,4 +47,9 @@ sample = record {
   leaves = (omega arith, refl);
   waits = omega arith;
   five = refl;
+  neighbour = refl;
+  gained = refl;
+  loaded-elsewhere = refl;
+  stored-elsewhere = refl;
+  same-elsewhere = refl;
 }

@@ -46,6 +46,12 @@ either-says false b P Q s t = (λ e. inr (t .0 e), go)
     go (inl p) = absurd (true≢false (sym (s .1 p)))
     go (inr q) = t .1 q
 
+pub where-says : (b x y : Bool) (P X Y : Type 0) → Says b P → Says x X → Says y Y → Says (pick b x y) ((P → X) × (Not P → Y))
+unfolding pick
+where-says true x y P X Y s t u = (λ e. (λ _. t .0 e, λ h. absurd (h (s .0 refl))), λ (f, _). t .1 (f (s .0 refl)))
+where-says false x y P X Y s t u =
+    let h : Not P = λ p. true≢false (sym (s .1 p)) in (λ e. (λ p. absurd (h p), λ _. u .0 e), λ (_, f). u .1 (f h))
+
 pub same-words : {b : Bool} {P Q : Type 0} → Says b P → (P ↔ Q) → Says b Q
 same-words s w = (λ e. w .0 (s .0 e), λ q. s .1 (w .1 q))
 

@@ -35,7 +35,7 @@ use Rattle.events.proofs.Regular.{length-steps, given-regular}
 use Rattle.events.proofs.Playable.{given-eight}
 use Rattle.seen.specs.Numbers.{Not, stepOf, Uses, recordAt, SameName, SameLabels, slotChecks, slotsFrom, Listed, SomeUnlisted, SomeIdle, verification}
 use Rattle.seen.proofs.Tests.{some-at, none-at}
-use Rattle.seen.proofs.Says.{Says, equal, below, negated, both-say, same-words, three-say, Tells, done, first, enabled}
+use Rattle.seen.proofs.Says.{Says, equal, below, negated, both-say, where-says, same-words, three-say, Tells, done, first, enabled}
 
 -- ---- checks, and a number for where all hold
 
@@ -118,7 +118,7 @@ module _ (m : Master) (g : Given m) where
   )
 
   names-say : (slot : ℕ) → Says (namesAgree (slotAt m slot) (recordAt m slot)) (SameName m slot)
-  names-say slot = both-say _ _ _ _ (equal _ _) (equal _ _)
+  names-say slot = both-say _ _ _ _ (equal _ _) (where-says _ _ _ _ _ _ (both-say _ _ _ _ (equal _ _) (equal _ _)) (equal _ _) (equal _ _))
 
   labels-say : (slot : ℕ) → Says (labelsAgree (slotAt m slot) (recordAt m slot)) (SameLabels m slot)
   unfolding labelsAgree

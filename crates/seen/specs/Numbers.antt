@@ -110,11 +110,21 @@ module _ (m : Master) where
   abbrev pub recordAt : ℕ → ClientRecord
   recordAt slot = getD (m .sequence .records) slot blankRecord
 
-  -- "NAMEs agree if they agree on every bit set in the loaded pool's mask. The master NAME must agree in all 64 bits."
+  -- "agree on every bit set in the loaded pool's mask"
+  abbrev pub Masked : ℕ → ℕ → ℕ → Type 0
+  Masked slot a b = bitAnd a (slotAt m slot .profile .mask) ≡ bitAnd b (slotAt m slot .profile .mask)
+
+  -- 02, request 2: "where the stored master NAME equals the stored client NAME, and the loaded one equals the loaded client NAME"
+  abbrev pub BothOwn : ℕ → Type 0
+  BothOwn slot = (recordAt slot .master ≡ recordAt slot .name) × (slotAt m slot .profile .master ≡ slotAt m slot .name)
+
+  -- "NAMEs agree if they agree on every bit set in the loaded pool's mask."; "where .., the mask applies to both. Otherwise all 64 bits count"
   abbrev pub SameName : ℕ → Type 0
   SameName slot =
       let s : Client = slotAt m slot in
-      (bitAnd (s .name) (s .profile .mask) ≡ bitAnd (recordAt slot .name) (s .profile .mask)) × (s .profile .master ≡ recordAt slot .master)
+      let c : ClientRecord = recordAt slot in
+      Masked slot (s .name) (c .name)
+      × ((BothOwn slot → Masked slot (s .profile .master) (c .master)) × (Not (BothOwn slot) → s .profile .master ≡ c .master))
 
   -- "both labels"
   abbrev pub SameLabels : ℕ → Type 0

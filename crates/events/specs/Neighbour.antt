@@ -1,0 +1,56 @@
+-- 02, request 2, "The neighbour's identical drill": that nobody loses by its rule of 9, and who gains.
+use Prim.Native.Nat.{ℕ, _^_, _<_}
+use mathlib.Core.Path.{_≡_}
+use mathlib.Core.Bool.{true, false, _&&_}
+use lib.Dec.{eqb}
+use lib.ListN.{getD}
+use Rattle.octets.specs.Numbers.{completed, nameDiffers}
+use Rattle.client.specs.{Clients.slotCount, Records.isUsed, Records.blankRecord, declared.Client.Client, declared.ClientRecord.ClientRecord}
+use Rattle.playback.specs.Verification.{Rule, firstFailing, agreeUnder, namesAgree, checksBy}
+use Rattle.playback.specs.Promises.{SameBits, BothOwn}
+use Rattle.master.specs.{declared.Master.Master, Call.slotAt}
+use Rattle.master.specs.States as state
+use Rattle.events.specs.Events.{start, apply, Given}
+
+-- ---- before
+
+-- 01's rule: "NAMEs agree if they agree on every bit set in the loaded pool's mask. The master NAME must agree in all 64 bits."
+abbrev pub inAllBits : Rule
+inAllBits s c = agreeUnder (s .profile .mask) (s .name) (c .name) && eqb (s .profile .master) (c .master)
+
+-- what a start from ready gave by it
+abbrev pub numberBefore : Master → ℕ
+numberBefore m = firstFailing (checksBy inAllBits (m .slots) (m .sequence))
+
+-- ---- the kind that the request names
+
+-- the loaded client is another than the stored one, each has its own NAME for its master NAME, and on every bit set in the mask they agree
+pub record Neighbour (s : Client) (c : ClientRecord) : Type 0 where
+  pub own : BothOwn s c
+  pub another : s .name ≡ c .name → ⊥
+  pub alike : SameBits (s .profile .mask) (s .name) (c .name)
+
+abbrev pub storedAt : Master → ℕ → ClientRecord
+storedAt m slot = getD (m .sequence .records) slot blankRecord
+
+-- one of the sequence's clients, whose slot this is, is of that kind
+pub record Gains (m : Master) : Type 0 where
+  pub slot : ℕ
+  pub one-of-eight : slot < slotCount
+  pub of-sequence : isUsed (storedAt m slot) ≡ true
+  pub neighbour : Neighbour (slotAt m slot) (storedAt m slot)
+
+pub record Neighbours : Type 0 where
+  -- whoever passed before passes still, and whoever got another number than 9 gets it still
+  pub nobody-loses : (m : Master) → m .state ≡ state.ready → (numberBefore m ≡ nameDiffers → ⊥) → apply m start .number ≡ numberBefore m
+  -- whoever passes now and did not before got 9, and is of the kind that the request names
+  pub who-gains :
+      (m : Master) → Given m → apply m start .number ≡ completed → (numberBefore m ≡ completed → ⊥)
+      → (numberBefore m ≡ nameDiffers) × Gains m
+  -- so is every client that passes now and did not before
+  pub no-other :
+      (m : Master) → Given m → apply m start .number ≡ completed → (slot : ℕ) → slot < slotCount → isUsed (storedAt m slot) ≡ true
+      → inAllBits (slotAt m slot) (storedAt m slot) ≡ false → Neighbour (slotAt m slot) (storedAt m slot)
+  -- and every client of that kind gains; a mask has 64 bits
+  pub each :
+      (s : Client) (c : ClientRecord) → s .profile .mask < 2 ^ 64 → Neighbour s c → (inAllBits s c ≡ false) × (namesAgree s c ≡ true)
