@@ -28,7 +28,7 @@ use Rattle.master.specs.declared.Master.{Master}
 use Rattle.master.specs.Call.{slotAt}
 use Rattle.master.specs.States as state
 use Rattle.events.specs.Events.{start, apply, Given}
-use Rattle.events.specs.Neighbour.{inAllBits, numberBefore, Neighbour, storedAt, Gains, Neighbours}
+use Rattle.events.specs.Neighbour.{inAllBits, numberBefore, Neighbour, recordAt, Gains, Neighbours}
 use Rattle.events.proofs.Starts.{ready-number, start-exactly}
 use Rattle.events.proofs.Regular.{given-regular}
 use Rattle.events.proofs.Playable.{given-eight, client-holds, client-at}
@@ -82,10 +82,10 @@ unfolding verifyOf
 nobody-loses m s n = ready-number m s ∙ not-9 inAllBits namesAgree takes (m .slots) (m .sequence) n
 
 module _ (m : Master) (g : Given m) (e : apply m start .number ≡ completed) where
-  no-other : (slot : ℕ) → slot < 8 → isUsed (storedAt m slot) ≡ true → inAllBits (slotAt m slot) (storedAt m slot) ≡ false → Neighbour (slotAt m slot) (storedAt m slot)
+  no-other : (slot : ℕ) → slot < 8 → isUsed (recordAt m slot) ≡ true → inAllBits (slotAt m slot) (recordAt m slot) ≡ false → Neighbour (slotAt m slot) (recordAt m slot)
   no-other slot k u h =
-      kind (slotAt m slot) (storedAt m slot) h
-      (client-holds namesAgree (slotAt m slot) (storedAt m slot) u (client-at namesAgree m g (start-exactly .only m e .1) slot k) .1)
+      kind (slotAt m slot) (recordAt m slot) h
+      (client-holds namesAgree (slotAt m slot) (recordAt m slot) u (client-at namesAgree m g (start-exactly .only m e .1) slot k) .1)
 
   ready : m .state ≡ state.ready
   ready = start-exactly .only m e .0
@@ -104,7 +104,7 @@ module _ (m : Master) (g : Given m) (e : apply m start .number ≡ completed) wh
     sound : SoundSequence (m .sequence)
     sound = given-regular m g .sequence
 
-    at : (slot : ℕ) → slot < 8 → getD clients slot (noSlot, blankRecord) ≡ (slotAt m slot, storedAt m slot)
+    at : (slot : ℕ) → slot < 8 → getD clients slot (noSlot, blankRecord) ≡ (slotAt m slot, recordAt m slot)
     at slot k =
         getD-pairs (m .slots) (m .sequence .records) slot noSlot blankRecord (omega (arith, k, given-eight m g)) (omega (arith, k, sound .slots))
 
@@ -119,7 +119,7 @@ module _ (m : Master) (g : Given m) (e : apply m start .number ≡ completed) wh
         go (inl (_, none)) = absurd (h (ap firstFailing (none-refused inAllBits namesAgree takes (m .slots) (m .sequence) none) ∙ sym (ready-number m ready) ∙ e))
         go (inr (slot, _, l, t)) =
             let k : slot < 8 = omega (arith, l, length-pairs (m .slots) (m .sequence .records) 8 (given-eight m g) (sound .slots)) in
-            let (u, n) = taken (slotAt m slot) (storedAt m slot) (subst (λ (x : Client × ClientRecord). isRefused inAllBits x ≡ true) (at slot k) t) in
+            let (u, n) = taken (slotAt m slot) (recordAt m slot) (subst (λ (x : Client × ClientRecord). isRefused inAllBits x ≡ true) (at slot k) t) in
             record { slot = slot; one-of-eight = k; of-sequence = u; neighbour = no-other slot k u n }
 
 pub neighbours : Neighbours

@@ -30,15 +30,16 @@ pub record Neighbour (s : Client) (c : ClientRecord) : Type 0 where
   pub another : s .name ≡ c .name → ⊥
   pub alike : SameBits (s .profile .mask) (s .name) (c .name)
 
-abbrev pub storedAt : Master → ℕ → ClientRecord
-storedAt m slot = getD (m .sequence .records) slot blankRecord
+-- the sequence's record of the client in this slot
+abbrev pub recordAt : Master → ℕ → ClientRecord
+recordAt m slot = getD (m .sequence .records) slot blankRecord
 
 -- one of the sequence's clients, whose slot this is, is of that kind
 pub record Gains (m : Master) : Type 0 where
   pub slot : ℕ
   pub one-of-eight : slot < slotCount
-  pub of-sequence : isUsed (storedAt m slot) ≡ true
-  pub neighbour : Neighbour (slotAt m slot) (storedAt m slot)
+  pub of-sequence : isUsed (recordAt m slot) ≡ true
+  pub neighbour : Neighbour (slotAt m slot) (recordAt m slot)
 
 pub record Neighbours : Type 0 where
   -- whoever passed before passes still, and whoever got another number than 9 gets it still
@@ -49,8 +50,8 @@ pub record Neighbours : Type 0 where
       → (numberBefore m ≡ nameDiffers) × Gains m
   -- so is every client that passes now and did not before
   pub no-other :
-      (m : Master) → Given m → apply m start .number ≡ completed → (slot : ℕ) → slot < slotCount → isUsed (storedAt m slot) ≡ true
-      → inAllBits (slotAt m slot) (storedAt m slot) ≡ false → Neighbour (slotAt m slot) (storedAt m slot)
+      (m : Master) → Given m → apply m start .number ≡ completed → (slot : ℕ) → slot < slotCount → isUsed (recordAt m slot) ≡ true
+      → inAllBits (slotAt m slot) (recordAt m slot) ≡ false → Neighbour (slotAt m slot) (recordAt m slot)
   -- and every client of that kind gains; a mask has 64 bits
   pub each :
       (s : Client) (c : ClientRecord) → s .profile .mask < 2 ^ 64 → Neighbour s c → (inAllBits s c ≡ false) × (namesAgree s c ≡ true)

@@ -30,10 +30,11 @@ use Rattle.playback.proofs.Verifies.{verifies}
 use Rattle.master.specs.declared.Master.{Master}
 use Rattle.master.specs.Call.{slotAt}
 use Rattle.events.specs.Events.{Given}
+use Rattle.events.specs.Neighbour.{recordAt}
 use Rattle.events.proofs.Choices.{is-true}
 use Rattle.events.proofs.Regular.{length-steps, given-regular}
 use Rattle.events.proofs.Playable.{given-eight}
-use Rattle.seen.specs.Numbers.{Not, stepOf, Uses, recordAt, SameName, SameLabels, slotChecks, slotsFrom, Listed, SomeUnlisted, SomeIdle, verification}
+use Rattle.seen.specs.Numbers.{Not, stepOf, Uses, SameName, SameLabels, slotChecks, slotsFrom, Listed, SomeUnlisted, SomeIdle, verification}
 use Rattle.seen.proofs.Tests.{some-at, none-at}
 use Rattle.seen.proofs.Says.{Says, equal, below, negated, both-say, where-says, same-words, three-say, Tells, done, first, enabled}
 

@@ -9,11 +9,12 @@ use lib.Bits.{bitAnd}
 use lib.ListN.{length, getD}
 use Rattle.pool.specs.Pool.{verdictOf}
 use Rattle.profile.specs.{Profile.trigger, Profile.hasState, declared.Profile.Profile}
-use Rattle.client.specs.{Records.blankRecord, declared.Client.Client, declared.ClientRecord.ClientRecord}
+use Rattle.client.specs.{declared.Client.Client, declared.ClientRecord.ClientRecord}
 use Rattle.sequence.specs.{Sequence.blankStep, declared.Step.Step}
 use Rattle.playback.specs.State.{blankSent}
 use Rattle.master.specs.{declared.Master.Master, Call.slotAt}
 use Rattle.events.specs.Events.{Event, on, off, «record», stop, cancel, start, abort, attach, enable, disable, report, lost, indication, clientAbort, tick, answer, apply, Given}
+use Rattle.events.specs.Neighbour.{recordAt}
 use Rattle.seen.specs.Words.{nth, Enabled, InRecording}
 
 abbrev pub Not : Type 0 → Type 0
@@ -106,30 +107,26 @@ module _ (m : Master) where
   abbrev pub Uses : ℕ → Type 0
   Uses slot = (i : ℕ) × ((i < m .sequence .count) × (stepOf i .slot ≡ slot))
 
-  -- what is kept of its client
-  abbrev pub recordAt : ℕ → ClientRecord
-  recordAt slot = getD (m .sequence .records) slot blankRecord
-
   -- "agree on every bit set in the loaded pool's mask"
   abbrev pub Masked : ℕ → ℕ → ℕ → Type 0
   Masked slot a b = bitAnd a (slotAt m slot .profile .mask) ≡ bitAnd b (slotAt m slot .profile .mask)
 
   -- 02, request 2: "where the stored master NAME equals the stored client NAME, and the loaded one equals the loaded client NAME"
   abbrev pub BothOwn : ℕ → Type 0
-  BothOwn slot = (recordAt slot .master ≡ recordAt slot .name) × (slotAt m slot .profile .master ≡ slotAt m slot .name)
+  BothOwn slot = (recordAt m slot .master ≡ recordAt m slot .name) × (slotAt m slot .profile .master ≡ slotAt m slot .name)
 
   -- "NAMEs agree if they agree on every bit set in the loaded pool's mask."; "where .., the mask applies to both. Otherwise all 64 bits count"
   abbrev pub SameName : ℕ → Type 0
   SameName slot =
       let s : Client = slotAt m slot in
-      let c : ClientRecord = recordAt slot in
+      let c : ClientRecord = recordAt m slot in
       Masked slot (s .name) (c .name)
       × ((BothOwn slot → Masked slot (s .profile .master) (c .master)) × (Not (BothOwn slot) → s .profile .master ≡ c .master))
 
   -- "both labels"
   abbrev pub SameLabels : ℕ → Type 0
   SameLabels slot =
-      let s : Client = slotAt m slot in (s .profile .version ≡ recordAt slot .version) × (s .profile .configuration ≡ recordAt slot .configuration)
+      let s : Client = slotAt m slot in (s .profile .version ≡ recordAt m slot .version) × (s .profile .configuration ≡ recordAt m slot .configuration)
 
   -- "8 a client of the sequence is not enabled", "9 a NAME differs", "10 a label differs"
   abbrev pub slotChecks : ℕ → (ℕ → Type 0) → ℕ → Type 0
