@@ -33,17 +33,17 @@ firstFailing (c ∷ cs) = let later : ℕ = firstFailing cs in pick (c .0) later
 abbrev pub agreeUnder : ℕ → ℕ → ℕ → Bool
 agreeUnder mask a b = eqb (bitAnd a mask) (bitAnd b mask)
 
--- a rule of 9: whether the NAMEs of a client agree
-abbrev pub Rule : Type 0
-Rule = Client → ClientRecord → Bool
-
 -- "where the stored master NAME equals the stored client NAME, and the loaded one equals the loaded client NAME"
-abbrev pub bothOwn : Rule
+abbrev pub bothOwn : Client → ClientRecord → Bool
 bothOwn s c = eqb (c .master) (c .name) && eqb (s .profile .master) (s .name)
 
 -- "the mask applies to both. Otherwise all 64 bits count, as before."
 abbrev pub mastersAgree : Bool → ℕ → ℕ → ℕ → Bool
 mastersAgree own mask loaded stored = pick own (agreeUnder mask loaded stored) (eqb loaded stored)
+
+-- a rule of 9: whether the NAMEs of a client agree
+abbrev pub Rule : Type 0
+Rule = Client → ClientRecord → Bool
 
 -- the rule that is in force: "NAMEs agree if they agree on every bit set in the loaded pool's mask.", and the master NAMEs agree
 abbrev pub namesAgree : Rule
@@ -110,6 +110,7 @@ checksBy agree slots q =
     ++ (flatMap (stepChecks slots) (stepsOf q)
     ++ flatMap readyChecks (pairs slots (q .records)))
 
+-- by the rule that is in force
 abbrev pub checksOf : List Client → Sequence → List Check
 checksOf slots q = checksBy namesAgree slots q
 
