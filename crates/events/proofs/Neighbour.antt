@@ -1,17 +1,17 @@
 -- Nobody loses by the rule of 9 that is in force, and who gains: by the laws of two rules, one of which takes what the other takes.
 use Prim.Native.Nat.{ℕ, _^_, _<_}
 use mathlib.Core.Path.{_≡_, refl, sym, ap, subst, _∙_}
-use mathlib.Core.Bool.{Bool, true, false, not, _&&_, true≢false, and-false}
+use mathlib.Core.Bool.{Bool, true, false, _&&_, true≢false, and-false}
 use mathlib.Core.Logic.{inl, inr}
 use mathlib.Core.List.{List}
 use native.Mathlib.Omega.{arith}
 use lib.Bits.{bitAnd}
 use lib.Dec.{eqb}
-use lib.ListN.{length, getD}
+use lib.ListN.{getD}
 use borrow.Author.Tests.{eq-eqb, ne-eqb, eqb-true, eqb-false, not-true}
 use Rattle.octets.specs.Pick.{pick}
 use Rattle.octets.specs.Numbers.{completed, nameDiffers}
-use Rattle.octets.proofs.Tests.{pick-true, pick-false}
+use Rattle.octets.proofs.Tests.{pick-false}
 use Rattle.arrays.proofs.Every.{Found, first-is}
 use Rattle.client.specs.Clients.{noSlot}
 use Rattle.client.specs.Records.{isUsed, blankRecord}
@@ -20,8 +20,7 @@ use Rattle.client.specs.declared.ClientRecord.{ClientRecord}
 use Rattle.recording.specs.Promises.{SoundSequence}
 use Rattle.recording.proofs.Steps.{both}
 use Rattle.playback.specs.Pairs.{pairs}
-use Rattle.playback.specs.Verification.{firstFailing, agreeUnder, bothOwn, mastersAgree, namesAgree, checksBy, verifyOf}
-use Rattle.playback.specs.Promises.{SameBits, BothOwn}
+use Rattle.playback.specs.Verification.{firstFailing, agreeUnder, bothOwn, mastersAgree, namesAgree, verifyOf}
 use Rattle.playback.proofs.Agrees.{agrees, bits, is-own}
 use Rattle.playback.proofs.Pairs.{length-pairs, getD-pairs}
 use Rattle.master.specs.declared.Master.{Master}

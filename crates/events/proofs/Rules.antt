@@ -1,6 +1,5 @@
 -- Two rules of 9, the second of which takes whatever the first takes: where a start does not get 9 by the first, it gets the same number by both, and where
 -- the first takes every client of the sequence, the checks are the same.
-use Prim.Native.Nat.{ℕ}
 use mathlib.Core.Path.{_≡_, refl, sym, ap, _∙_}
 use mathlib.Core.Bool.{Bool, true, false, not, _&&_, true≢false}
 use mathlib.Core.Logic.{_⊎_, inl, inr}

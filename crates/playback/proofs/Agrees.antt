@@ -52,7 +52,7 @@ bits mask a b e k l h =
     let q : a / 2 ^ k % 2 ≡ b / 2 ^ k % 2 = omega (arith, and-digit a mask k, and-digit b mask k) in
     rw q
 
-pub bits-only : (mask a b : ℕ) → mask < 2 ^ 64 → SameBits mask a b → agreeUnder mask a b ≡ true
+bits-only : (mask a b : ℕ) → mask < 2 ^ 64 → SameBits mask a b → agreeUnder mask a b ≡ true
 unfolding hasBit
 bits-only mask a b h e =
     eq-eqb _ _ (digits 64 (bitAnd a mask) (bitAnd b mask) (omega (arith, and-le-r a mask)) (omega (arith, and-le-r b mask)) each)

@@ -15,16 +15,16 @@ use Rattle.playback.specs.Verification.{Check, Rule, isListed, isInPool,
 use Rattle.playback.specs.Promises.{EveryHolds}
 use Rattle.playback.proofs.Agrees.{both}
 
-pub holds-split : (a b : List Check) → EveryHolds (a ++ b) → EveryHolds a × EveryHolds b
+holds-split : (a b : List Check) → EveryHolds (a ++ b) → EveryHolds a × EveryHolds b
 holds-split [] b h = (tt, h)
 holds-split (c ∷ a) b h = let k = holds-split a b (h .1) in ((h .0, k .0), k .1)
 
-pub holds-each : {X : Type 0} (f : X → List Check) (l : List X) → EveryHolds (flatMap f l) → Every (λ x. EveryHolds (f x)) l
+holds-each : {X : Type 0} (f : X → List Check) (l : List X) → EveryHolds (flatMap f l) → Every (λ x. EveryHolds (f x)) l
 unfolding flatMap
 holds-each f [] h = tt
 holds-each f (x ∷ l) h = let k = holds-split (f x) (flatMap f l) h in (k .0, holds-each f l (k .1))
 
--- "11 function or state not in the loaded pool": the slot is one of the eight, and "a state is at most 63"
+-- "11 function or state not in the loaded pool": where it holds, the slot is one of the eight, and the state at most 63
 pub step-listed : (slots : List Client) (s : Step) → EveryHolds (stepChecks slots s) → (s .slot < 8) × (s .state < 64)
 unfolding stepChecks isInPool isListed
 step-listed slots s h =

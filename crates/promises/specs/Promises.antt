@@ -19,7 +19,7 @@ pub record Promises : Type 0 where
   pub determined : Determined
   -- ---- "1. No pool, message or order of calls makes it misbehave."
 
-  -- of every event in every state; with it "starts exactly when"
+  -- of every event in every state; with it "starts exactly when", and who gains by the rule of 9 that 02, request 2, has
   pub calls : events.Promises
   -- "refuses bad input by a number from document 01": exactly where its table and its rules say so
   pub numbers : Numbers
