@@ -14,7 +14,7 @@ use std::rc::Rc;
 const SEED: u64 = 11_783;
 /// Samples of clients; the last has a pool of any size.
 pub const SAMPLES: usize = 5;
-/// The NAME mask of the first, which has bits of either kind; its master NAME is its own NAME.
+/// The NAME mask of the first, which has bits of either kind; in slot 0 its master NAME is its own NAME.
 const MASK: u64 = 0xFF00_FFFF_FFFF_FFFF;
 /// The preferred triggers; each is met in the first pools.
 const TRIGGERS: [u8; 3] = [255, 2, 1];

@@ -34,7 +34,7 @@ const RECORDING: &[u8] = &[
 const NOT_NOW: &[u8] = &[ON, OFF, ATTACH, 5, 2, 0, ENABLE, 0, DISABLE, 1, RECORD, START, LOST, 7, REPORT, 7, RAW, 8, 2, 0x34, 5, RAW, 0, 1, 0x32];
 /// The same three steps, each answered "started".
 const ALL_STARTED: &[u8] = &[START, TICKS, 3, 7, ANSWER, 0, STARTED, ANSWER, 1, STARTED, ANSWER, 2, STARTED];
-/// Client 0 is lost and comes back; the last byte says changed in what.
+/// Client 0 is lost and comes back; the sixth byte says changed in what.
 const BACK: [u8; 19] =
     [LOST, 0, ATTACH, 0, 0, 0, ENABLE, 0, ALL_REPORT, READY, START, TICK, 0, ABORT, ALL_REPORT, ABORTS, ALL_REPORT, READY, READERS];
 /// So many ways a client comes back, itself among them; damaged ones follow.

@@ -1,4 +1,5 @@
-//! Clients to attach: a NAME and a pool each; the same clients changed in one thing; and pools that are refused.
+//! Clients to attach: a NAME and a pool each; the same clients changed in one thing, the neighbour's in NAME and master NAME;
+//! and pools that are refused.
 
 use super::generate::{Pool, Random, Shape, FULL};
 use super::recording::Step;

@@ -2,36 +2,29 @@
 use Prim.Native.Nat.{ℕ, _^_, _<_}
 use mathlib.Core.Path.{_≡_, refl, sym, ap, subst, _∙_}
 use mathlib.Core.Bool.{Bool, true, false, _&&_, true≢false, and-false}
-use mathlib.Core.Logic.{inl, inr}
-use mathlib.Core.List.{List}
+use mathlib.Core.Logic.{_⊎_, inl, inr}
 use native.Mathlib.Omega.{arith}
 use lib.Bits.{bitAnd}
 use lib.Dec.{eqb}
-use lib.ListN.{getD}
-use borrow.Author.Tests.{eq-eqb, ne-eqb, eqb-true, eqb-false, not-true}
+use borrow.Author.Tests.{eq-eqb, ne-eqb, eqb-true, eqb-false}
 use Rattle.octets.specs.Pick.{pick}
 use Rattle.octets.specs.Numbers.{completed, nameDiffers}
 use Rattle.octets.proofs.Tests.{pick-false}
-use Rattle.arrays.proofs.Every.{Found, first-is}
-use Rattle.client.specs.Clients.{noSlot}
-use Rattle.client.specs.Records.{isUsed, blankRecord}
+use Rattle.client.specs.Records.{isUsed}
 use Rattle.client.specs.declared.Client.{Client}
 use Rattle.client.specs.declared.ClientRecord.{ClientRecord}
-use Rattle.recording.specs.Promises.{SoundSequence}
 use Rattle.recording.proofs.Steps.{both}
 use Rattle.playback.specs.Pairs.{pairs}
-use Rattle.playback.specs.Verification.{firstFailing, agreeUnder, bothOwn, mastersAgree, namesAgree, verifyOf}
+use Rattle.playback.specs.Verification.{agreeUnder, bothOwn, mastersAgree, namesAgree, verifyOf}
 use Rattle.playback.proofs.Agrees.{agrees, bits, is-own}
-use Rattle.playback.proofs.Pairs.{length-pairs, getD-pairs}
 use Rattle.master.specs.declared.Master.{Master}
 use Rattle.master.specs.Call.{slotAt}
 use Rattle.master.specs.States as state
-use Rattle.events.specs.Events.{start, apply, Given}
-use Rattle.events.specs.Neighbour.{inAllBits, numberBefore, Neighbour, recordAt, Gains, Neighbours}
+use Rattle.events.specs.Events.{start, apply, Given, recordAt}
+use Rattle.events.specs.Neighbour.{inAllBits, numberBefore, Neighbour, Gains, Neighbours}
 use Rattle.events.proofs.Starts.{ready-number, start-exactly}
-use Rattle.events.proofs.Regular.{given-regular}
-use Rattle.events.proofs.Playable.{given-eight, client-holds, client-at}
-use Rattle.events.proofs.Rules.{isRefused, not-9, none-refused}
+use Rattle.events.proofs.Playable.{client-holds, eight-pairs, pair-at, client-at}
+use Rattle.events.proofs.Rules.{Parts, PartsIn, either}
 
 -- ---- the two rules
 
@@ -76,55 +69,40 @@ module _ (s : Client) (c : ClientRecord) where
 
 -- ---- a start
 
-nobody-loses : (m : Master) → m .state ≡ state.ready → (numberBefore m ≡ nameDiffers → ⊥) → apply m start .number ≡ numberBefore m
-unfolding verifyOf
-nobody-loses m s n = ready-number m s ∙ not-9 inAllBits namesAgree takes (m .slots) (m .sequence) n
+module _ (m : Master) where
+  -- the same number by both, or 9 before and a client at which the two part
+  abbrev Either : Type 0
+  Either =
+      (numberBefore m ≡ verifyOf (m .slots) (m .sequence))
+      ⊎ ((numberBefore m ≡ nameDiffers) × PartsIn inAllBits namesAgree takes (pairs (m .slots) (m .sequence .records)))
 
-module _ (m : Master) (g : Given m) (e : apply m start .number ≡ completed) where
-  no-other : (slot : ℕ) → slot < 8 → isUsed (recordAt m slot) ≡ true → inAllBits (slotAt m slot) (recordAt m slot) ≡ false → Neighbour (slotAt m slot) (recordAt m slot)
-  no-other slot k u h =
+  compared : Either
+  unfolding verifyOf
+  compared = either inAllBits namesAgree takes (m .slots) (m .sequence)
+
+  nobody-loses : m .state ≡ state.ready → (numberBefore m ≡ nameDiffers → ⊥) → apply m start .number ≡ numberBefore m
+  nobody-loses s h = go compared
+    where
+      go : Either → apply m start .number ≡ numberBefore m
+      go (inl e) = ready-number m s ∙ sym e
+      go (inr (e, _)) = absurd (h e)
+
+  who-gains : Given m → m .state ≡ state.ready → (apply m start .number ≡ numberBefore m → ⊥) → (numberBefore m ≡ nameDiffers) × Gains m
+  who-gains g s h = go compared
+    where
+      go : Either → (numberBefore m ≡ nameDiffers) × Gains m
+      go (inl e) = absurd (h (ready-number m s ∙ sym e))
+      go (inr (e, (slot, l, p))) =
+          let k : slot < 8 = omega (arith, l, eight-pairs m g) in
+          let (u, n, w) = subst (Parts inAllBits namesAgree takes) (pair-at m g slot k) p in
+          (e, record { slot = slot; one-of-eight = k; of-sequence = u; neighbour = kind (slotAt m slot) (recordAt m slot) n w })
+
+  no-other :
+      Given m → apply m start .number ≡ completed → (slot : ℕ) → slot < 8 → isUsed (recordAt m slot) ≡ true
+      → inAllBits (slotAt m slot) (recordAt m slot) ≡ false → Neighbour (slotAt m slot) (recordAt m slot)
+  no-other g e slot k u h =
       kind (slotAt m slot) (recordAt m slot) h
       (client-holds namesAgree (slotAt m slot) (recordAt m slot) u (client-at namesAgree m g (start-exactly .only m e .1) slot k) .1)
 
-  ready : m .state ≡ state.ready
-  ready = start-exactly .only m e .0
-
-  module _ (h : numberBefore m ≡ completed → ⊥) where
-    was-9 : numberBefore m ≡ nameDiffers
-    was-9 = go (eqb (numberBefore m) nameDiffers) refl
-      where
-        go : (b : Bool) → eqb (numberBefore m) nameDiffers ≡ b → numberBefore m ≡ nameDiffers
-        go true t = eqb-true _ _ t
-        go false t = absurd (h (sym (nobody-loses m ready (eqb-false _ _ t)) ∙ e))
-
-    abbrev clients : List (Client × ClientRecord)
-    clients = pairs (m .slots) (m .sequence .records)
-
-    sound : SoundSequence (m .sequence)
-    sound = given-regular m g .sequence
-
-    at : (slot : ℕ) → slot < 8 → getD clients slot (noSlot, blankRecord) ≡ (slotAt m slot, recordAt m slot)
-    at slot k =
-        getD-pairs (m .slots) (m .sequence .records) slot noSlot blankRecord (omega (arith, k, given-eight m g)) (omega (arith, k, sound .slots))
-
-    taken : (s : Client) (c : ClientRecord) → isRefused inAllBits (s, c) ≡ true → (isUsed c ≡ true) × (inAllBits s c ≡ false)
-    taken s c t = let p = both (isUsed c) _ t in (p .0, not-true (inAllBits s c) (p .1))
-
-    gains : Gains m
-    unfolding verifyOf
-    gains = go (first-is (isRefused inAllBits) 8 0 clients (noSlot, blankRecord))
-      where
-        go : Found (isRefused inAllBits) 8 0 clients (noSlot, blankRecord) → Gains m
-        go (inl (_, none)) = absurd (h (ap firstFailing (none-refused inAllBits namesAgree takes (m .slots) (m .sequence) none) ∙ sym (ready-number m ready) ∙ e))
-        go (inr (slot, _, l, t)) =
-            let k : slot < 8 = omega (arith, l, length-pairs (m .slots) (m .sequence .records) 8 (given-eight m g) (sound .slots)) in
-            let (u, n) = taken (slotAt m slot) (recordAt m slot) (subst (λ (x : Client × ClientRecord). isRefused inAllBits x ≡ true) (at slot k) t) in
-            record { slot = slot; one-of-eight = k; of-sequence = u; neighbour = no-other slot k u n }
-
 pub neighbours : Neighbours
-neighbours = record {
-  nobody-loses = nobody-loses;
-  who-gains = λ m g e h. (was-9 m g e h, gains m g e h);
-  no-other = no-other;
-  each = each;
-}
+neighbours = record { nobody-loses = nobody-loses; who-gains = who-gains; no-other = no-other; each = each }

@@ -37,7 +37,7 @@ use Rattle.master.specs.Playback.{startCall, abortCall, clientAbortCall, answer
 use Rattle.master.specs.Tick.{playbackTicked, ticked, tickCall}
 use Rattle.master.specs.Messages.{executionIn}
 use Rattle.master.proofs.Calls.{passed, below}
-use Rattle.events.specs.Events.{Event, on, off, «record», stop, cancel, start, abort, attach, enable, disable, report, lost, indication, clientAbort, tick, answer, callOf, Given}
+use Rattle.events.specs.Events.{Event, on, off, «record», stop, cancel, start, abort, attach, enable, disable, report, lost, indication, clientAbort, tick, answer, callOf, Given, recordAt}
 use Rattle.events.proofs.Choices.{chosen, chosen-by, either}
 use Rattle.events.proofs.Changes.{Near, itself, slotted, Change, rested, moved, dropped, broken, recordStarts, recordWaits, recordEnds, recordHears, recordHearsLast, recordTicks, playStarts, playTicks, playTicksLast, playHears, playHearsLast, not-recording}
 use Rattle.events.proofs.Invariant.{done-change, given-by, Invariant, always}
@@ -78,6 +78,18 @@ new-eight = refl
 pub given-eight : (m : Master) → Given m → length (m .slots) ≡ 8
 given-eight = always (λ m. length (m .slots) ≡ 8) eight new-eight
 
+-- the clients, loaded and stored
+module _ (m : Master) (g : Given m) where
+  records : length (m .sequence .records) ≡ 8
+  records = given-regular m g .sequence .slots
+
+  pub eight-pairs : length (pairs (m .slots) (m .sequence .records)) ≡ 8
+  eight-pairs = length-pairs (m .slots) (m .sequence .records) 8 (given-eight m g) records
+
+  pub pair-at : (slot : ℕ) → slot < 8 → getD (pairs (m .slots) (m .sequence .records)) slot (noSlot, blankRecord) ≡ (slotAt m slot, recordAt m slot)
+  pair-at slot l =
+      getD-pairs (m .slots) (m .sequence .records) slot noSlot blankRecord (omega (arith, l, given-eight m g)) (omega (arith, l, records))
+
 -- ---- a step that can be played
 
 -- the client of this slot is enabled
@@ -102,7 +114,7 @@ module _ (agree : Rule) (m : Master) (g : Given m) (c : EveryHolds (checksBy agr
   sound = given-regular m g .sequence
 
   -- a slot of which there is a step has a record
-  used : (i : ℕ) → i < q .count → getD (q .steps) i blankStep .slot < 8 → isUsed (getD (q .records) (getD (q .steps) i blankStep .slot) blankRecord) ≡ true
+  used : (i : ℕ) → i < q .count → getD (q .steps) i blankStep .slot < 8 → isUsed (recordAt m (getD (q .steps) i blankStep .slot)) ≡ true
   unfolding stepsOf
   used i l k =
       let s : Step = getD (q .steps) i blankStep in
@@ -114,13 +126,11 @@ module _ (agree : Rule) (m : Master) (g : Given m) (c : EveryHolds (checksBy agr
       let n = every-at (λ (x : Step). isOf (s .slot) x ≡ false) (stepsOf q) i blankStep in-steps (none-passes (isOf (s .slot)) (stepsOf q) f) in
       absurd (true≢false (sym (eq-eqb (s .slot) (s .slot) refl) ∙ ap (isOf (s .slot)) (sym (getD-take (q .count) (q .steps) i blankStep l)) ∙ n)))
 
-  pub client-at : (slot : ℕ) → slot < 8 → EveryHolds (clientChecks agree (slotAt m slot, getD (q .records) slot blankRecord))
+  pub client-at : (slot : ℕ) → slot < 8 → EveryHolds (clientChecks agree (slotAt m slot, recordAt m slot))
   client-at slot k =
-      let e = given-eight m g in
-      subst (λ (x : Client × ClientRecord). EveryHolds (clientChecks agree x))
-      (getD-pairs (m .slots) (q .records) slot noSlot blankRecord (omega (arith, k, e)) (omega (arith, k, sound .slots)))
+      subst (λ (x : Client × ClientRecord). EveryHolds (clientChecks agree x)) (pair-at m g slot k)
       (every-at (λ (x : Client × ClientRecord). EveryHolds (clientChecks agree x)) (pairs (m .slots) (q .records)) slot (noSlot, blankRecord)
-      (omega (arith, k, length-pairs (m .slots) (q .records) 8 e (sound .slots))) (clients-hold agree (m .slots) q c))
+      (omega (arith, k, eight-pairs m g)) (clients-hold agree (m .slots) q c))
 
   at-start : (i : ℕ) → i < q .count → Playable m (getD (q .steps) i blankStep)
   unfolding stepsOf

@@ -1,109 +1,83 @@
--- Two rules of 9, the second of which takes whatever the first takes: where a start does not get 9 by the first, it gets the same number by both, and where
--- the first takes every client of the sequence, the checks are the same.
+-- Two rules of 9, the second of which takes whatever the first takes: a start gets the same number by both, or it gets 9 by the first, and at a client of the
+-- sequence the two part.
+use Prim.Native.Nat.{ℕ, suc, _<_}
 use mathlib.Core.Path.{_≡_, refl, sym, ap, _∙_}
-use mathlib.Core.Bool.{Bool, true, false, not, _&&_, true≢false}
+use mathlib.Core.Bool.{Bool, true, false, not, true≢false}
 use mathlib.Core.Logic.{_⊎_, inl, inr}
-use mathlib.Core.List.{List, [], _∷_, _++_, flatMap}
+use mathlib.Core.List.{List, [], _∷_, _++_, flatMap, append-assoc}
+use native.Mathlib.Omega.{arith}
+use lib.Dec.{eqb}
+use lib.ListN.{length, getD}
 use Rattle.octets.specs.Pick.{pick}
-use Rattle.octets.specs.Numbers.{notEnabled, nameDiffers, labelDiffers}
-use Rattle.arrays.specs.Arrays.{some}
-use Rattle.arrays.proofs.Every.{neither}
-use Rattle.client.specs.Records.{isUsed}
+use Rattle.octets.specs.Numbers.{noStep, notEnabled, nameDiffers, labelDiffers}
+use Rattle.client.specs.Clients.{isEnabled, noSlot}
+use Rattle.client.specs.Records.{isUsed, blankRecord}
 use Rattle.client.specs.declared.Client.{Client}
 use Rattle.client.specs.declared.ClientRecord.{ClientRecord}
-use Rattle.sequence.specs.Sequence.{stepsOf}
 use Rattle.sequence.specs.declared.Sequence.{Sequence}
 use Rattle.playback.specs.Pairs.{pairs}
-use Rattle.playback.specs.Verification.{Check, Rule, firstFailing, ofSequence, clientChecks, stepChecks, readyChecks, checksBy}
+use Rattle.playback.specs.Verification.{Check, Rule, firstFailing, labelsAgree, ofSequence, clientChecks, checksBy}
 
--- ---- lists of checks that differ only where the first has a 9 that does not hold
-
-abbrev Alike : List Check → List Check → Type 0
-Alike [] [] = Unit {0}
-Alike [] (y ∷ b) = ⊥
-Alike (x ∷ a) [] = ⊥
-Alike (x ∷ a) (y ∷ b) = ((x ≡ y) ⊎ (x ≡ (false, nameDiffers))) × Alike a b
-
-same : (l : List Check) → Alike l l
-same [] = tt
-same (x ∷ l) = (inl refl, same l)
-
-join : (a b c d : List Check) → Alike a b → Alike c d → Alike (a ++ c) (b ++ d)
-join [] [] c d h k = k
-join [] (y ∷ b) c d h k = absurd h
-join (x ∷ a) [] c d h k = absurd h
-join (x ∷ a) (y ∷ b) c d h k = (h .0, join a b c d (h .1) k)
-
-each : {X : Type 0} (f g : X → List Check) → ((x : X) → Alike (f x) (g x)) → (l : List X) → Alike (flatMap f l) (flatMap g l)
-unfolding flatMap
-each f g h [] = tt
-each f g h (x ∷ l) = join (f x) (g x) _ _ (h x) (each f g h l)
-
-same-number : (a b : List Check) → Alike a b → (firstFailing a ≡ nameDiffers → ⊥) → firstFailing b ≡ firstFailing a
-unfolding pick firstFailing
-same-number [] [] h n = refl
-same-number [] (y ∷ b) h n = absurd h
-same-number (x ∷ a) [] h n = absurd h
-same-number (x ∷ a) (y ∷ b) (inr e, k) n = absurd (n (ap (λ (z : Check). firstFailing (z ∷ a)) e))
-same-number (x ∷ a) (y ∷ b) (inl e, k) n = ap (λ (z : Check). firstFailing (z ∷ b)) (sym e) ∙ go x (λ m. same-number a b k m) n
-  where
-    go : (x : Check) → ((firstFailing a ≡ nameDiffers → ⊥) → firstFailing b ≡ firstFailing a)
-        → (firstFailing (x ∷ a) ≡ nameDiffers → ⊥) → firstFailing (x ∷ b) ≡ firstFailing (x ∷ a)
-    go (true, m) later n = later n
-    go (false, m) later n = refl
-
--- ---- "8, 9 and 10" of a slot, if it is one of the sequence
+-- ---- "8, 9 and 10" of a slot, if it is one of the sequence, by two rules, and the checks that follow
 
 abbrev three : Bool → Bool → Bool → Bool → List Check
 three u a b c = pick u ((a, notEnabled) ∷ (b, nameDiffers) ∷ (c, labelDiffers) ∷ []) []
 
-three-alike : (u a b b′ c : Bool) → (b ≡ true → b′ ≡ true) → Alike (three u a b c) (three u a b′ c)
-unfolding pick
-three-alike false a b b′ c h = tt
-three-alike true a false b′ c h = (inl refl, (inr refl, (inl refl, tt)))
-three-alike true a true b′ c h = (inl refl, (inl (ap (λ (t : Bool). (t, nameDiffers)) (sym (h refl))), (inl refl, tt)))
+-- one does not hold by both; or all hold by both; or they part at 9
+abbrev Meets : (u a b b′ c : Bool) → List Check → List Check → Type 0
+Meets u a b b′ c r r′ =
+    (firstFailing (three u a b c ++ r) ≡ firstFailing (three u a b′ c ++ r′))
+    ⊎ (((firstFailing (three u a b c ++ r) ≡ firstFailing r) × (firstFailing (three u a b′ c ++ r′) ≡ firstFailing r′))
+    ⊎ ((firstFailing (three u a b c ++ r) ≡ nameDiffers) × ((u ≡ true) × (b ≡ false) × (b′ ≡ true))))
 
-three-same : (u a b b′ c : Bool) → (b ≡ true → b′ ≡ true) → (u && not b) ≡ false → three u a b c ≡ three u a b′ c
-unfolding pick
-three-same false a b b′ c h n = refl
-three-same true a false b′ c h n = absurd (true≢false n)
-three-same true a true b′ c h n = ap (λ (t : Bool). three true a t c) (sym (h refl))
-
--- ---- the checks of a start
-
--- a client of the sequence that the rule does not take
-abbrev pub isRefused : Rule → Client × ClientRecord → Bool
-isRefused agree x = isUsed (x .1) && not (agree (x .0) (x .1))
+meets : (u a b b′ c : Bool) (r r′ : List Check) → (b ≡ true → b′ ≡ true) → Meets u a b b′ c r r′
+unfolding pick firstFailing
+meets false a b b′ c r r′ h = inr (inl (refl, refl))
+meets true false b b′ c r r′ h = inl refl
+meets true true false false c r r′ h = inl refl
+meets true true false true c r r′ h = inr (inr (refl, (refl, refl, refl)))
+meets true true true false c r r′ h = absurd (true≢false (sym (h refl)))
+meets true true true true false r r′ h = inl refl
+meets true true true true true r r′ h = inr (inl (refl, refl))
 
 module _ (narrow wide : Rule) (takes : (s : Client) (c : ClientRecord) → narrow s c ≡ true → wide s c ≡ true) where
-  client-alike : (x : Client × ClientRecord) → Alike (clientChecks narrow x) (clientChecks wide x)
-  unfolding ofSequence clientChecks
-  client-alike x = three-alike _ _ _ _ _ (takes (x .0) (x .1))
+  -- a client of the sequence that the wide rule takes, and the narrow one does not
+  abbrev pub Parts : Client × ClientRecord → Type 0
+  Parts x = (isUsed (x .1) ≡ true) × (narrow (x .0) (x .1) ≡ false) × (wide (x .0) (x .1) ≡ true)
 
-  client-same : (x : Client × ClientRecord) → isRefused narrow x ≡ false → clientChecks narrow x ≡ clientChecks wide x
-  unfolding ofSequence clientChecks
-  client-same x n = three-same _ _ _ _ _ (takes (x .0) (x .1)) n
+  abbrev pub PartsIn : List (Client × ClientRecord) → Type 0
+  PartsIn l = (k : ℕ) × (k < length l) × Parts (getD l k (noSlot, blankRecord))
 
-  clients-same : (l : List (Client × ClientRecord)) → some (isRefused narrow) l ≡ false → flatMap (clientChecks narrow) l ≡ flatMap (clientChecks wide) l
-  unfolding flatMap
-  clients-same [] h = refl
-  clients-same (x ∷ l) h = let n = neither (isRefused narrow x) (some (isRefused narrow) l) h in rw (client-same x (n .0), clients-same l (n .1))
+  abbrev Either : ℕ → ℕ → List (Client × ClientRecord) → Type 0
+  Either n w l = (n ≡ w) ⊎ ((n ≡ nameDiffers) × PartsIn l)
 
-  module _ (slots : List Client) (q : Sequence) where
-    abbrev clients : Rule → List Check
-    clients agree = flatMap (clientChecks agree) (pairs slots (q .records))
+  by : Rule → List (Client × ClientRecord) → List Check → ℕ
+  by agree l rest = firstFailing (flatMap (clientChecks agree) l ++ rest)
 
-    -- the checks that no rule of 9 is in
-    abbrev others : List Check
-    others = flatMap (stepChecks slots) (stepsOf q) ++ flatMap readyChecks (pairs slots (q .records))
+  here : (x : Client × ClientRecord) (r r′ : List Check)
+      → Meets (isUsed (x .1)) (isEnabled (x .0)) (narrow (x .0) (x .1)) (wide (x .0) (x .1)) (labelsAgree (x .0) (x .1)) r r′
+  here x r r′ = meets _ _ _ _ _ r r′ (takes (x .0) (x .1))
 
-    pub not-9 :
-        (firstFailing (checksBy narrow slots q) ≡ nameDiffers → ⊥) → firstFailing (checksBy wide slots q) ≡ firstFailing (checksBy narrow slots q)
-    unfolding checksBy
-    not-9 n =
-        let c = each (clientChecks narrow) (clientChecks wide) client-alike (pairs slots (q .records)) in
-        same-number (checksBy narrow slots q) (checksBy wide slots q) (inl refl, join (clients narrow) (clients wide) others others c (same others)) n
+  clients : (l : List (Client × ClientRecord)) (rest : List Check) → Either (by narrow l rest) (by wide l rest) l
+  unfolding flatMap by ofSequence clientChecks
+  clients [] rest = inl refl
+  clients (x ∷ l) rest = go (here x (flatMap (clientChecks narrow) l ++ rest) (flatMap (clientChecks wide) l ++ rest)) (clients l rest)
+    where
+      after : (agree : Rule) → by agree (x ∷ l) rest ≡ firstFailing (clientChecks agree x ++ (flatMap (clientChecks agree) l ++ rest))
+      after agree = ap firstFailing (append-assoc (clientChecks agree x) (flatMap (clientChecks agree) l) rest)
 
-    pub none-refused : some (isRefused narrow) (pairs slots (q .records)) ≡ false → checksBy narrow slots q ≡ checksBy wide slots q
-    unfolding checksBy
-    none-refused h = rw (clients-same (pairs slots (q .records)) h)
+      go : Meets (isUsed (x .1)) (isEnabled (x .0)) (narrow (x .0) (x .1)) (wide (x .0) (x .1)) (labelsAgree (x .0) (x .1)) (flatMap (clientChecks narrow) l ++ rest) (flatMap (clientChecks wide) l ++ rest)
+          → Either (by narrow l rest) (by wide l rest) l → Either (by narrow (x ∷ l) rest) (by wide (x ∷ l) rest) (x ∷ l)
+      go (inl e) later = inl (after narrow ∙ e ∙ sym (after wide))
+      go (inr (inl (n, w))) (inl e) = inl (after narrow ∙ n ∙ e ∙ sym (after wide ∙ w))
+      go (inr (inl (n, w))) (inr (e, (k, l, p))) = inr (after narrow ∙ n ∙ e, (suc k, omega arith, p))
+      go (inr (inr (n, p))) later = inr (after narrow ∙ n, (0, omega arith, p))
+
+  pub either : (slots : List Client) (q : Sequence)
+      → Either (firstFailing (checksBy narrow slots q)) (firstFailing (checksBy wide slots q)) (pairs slots (q .records))
+  unfolding pick firstFailing by checksBy
+  either slots q = go (not (eqb (q .count) 0)) (clients (pairs slots (q .records)) _)
+    where
+      go : (b : Bool) {n w : ℕ} → Either n w (pairs slots (q .records)) → Either (pick b n noStep) (pick b w noStep) (pairs slots (q .records))
+      go true e = e
+      go false e = inl refl

@@ -2,6 +2,8 @@
 use Prim.Native.Nat.{ℕ, _+_}
 use mathlib.Core.Path.{_≡_}
 use mathlib.Core.List.{List, [], _∷_}
+use lib.ListN.{getD}
+use Rattle.client.specs.{Records.blankRecord, declared.ClientRecord.ClientRecord}
 use Rattle.master.specs.{declared.Master.Master, declared.Outcome.Outcome, States.newMaster, Tick.tickCall}
 use Rattle.master.specs.Call.{Call, outcomeOf, leavesOf}
 use Rattle.master.specs.Clients.{onCall, offCall, attachCall, wantCall, reportCall, lostCall}
@@ -101,3 +103,7 @@ run events = runFrom newMaster events
 -- a master that calls give
 abbrev pub Given : Master → Type 0
 Given m = (events : List Event) × (run events ≡ m)
+
+-- the record that its sequence has of the client in this slot
+abbrev pub recordAt : Master → ℕ → ClientRecord
+recordAt m slot = getD (m .sequence .records) slot blankRecord

@@ -3,14 +3,13 @@ use Prim.Native.Nat.{ℕ, _^_, _<_}
 use mathlib.Core.Path.{_≡_}
 use mathlib.Core.Bool.{true, false, _&&_}
 use lib.Dec.{eqb}
-use lib.ListN.{getD}
 use Rattle.octets.specs.Numbers.{completed, nameDiffers}
-use Rattle.client.specs.{Clients.slotCount, Records.isUsed, Records.blankRecord, declared.Client.Client, declared.ClientRecord.ClientRecord}
+use Rattle.client.specs.{Clients.slotCount, Records.isUsed, declared.Client.Client, declared.ClientRecord.ClientRecord}
 use Rattle.playback.specs.Verification.{Rule, firstFailing, agreeUnder, namesAgree, checksBy}
 use Rattle.playback.specs.Promises.{SameBits, BothOwn}
 use Rattle.master.specs.{declared.Master.Master, Call.slotAt}
 use Rattle.master.specs.States as state
-use Rattle.events.specs.Events.{start, apply, Given}
+use Rattle.events.specs.Events.{start, apply, Given, recordAt}
 
 -- ---- before
 
@@ -30,10 +29,6 @@ pub record Neighbour (s : Client) (c : ClientRecord) : Type 0 where
   pub another : s .name ≡ c .name → ⊥
   pub alike : SameBits (s .profile .mask) (s .name) (c .name)
 
--- the sequence's record of the client in this slot
-abbrev pub recordAt : Master → ℕ → ClientRecord
-recordAt m slot = getD (m .sequence .records) slot blankRecord
-
 -- one of the sequence's clients, whose slot this is, is of that kind
 pub record Gains (m : Master) : Type 0 where
   pub slot : ℕ
@@ -44,9 +39,9 @@ pub record Gains (m : Master) : Type 0 where
 pub record Neighbours : Type 0 where
   -- whoever passed before passes still, and whoever got another number than 9 gets it still
   pub nobody-loses : (m : Master) → m .state ≡ state.ready → (numberBefore m ≡ nameDiffers → ⊥) → apply m start .number ≡ numberBefore m
-  -- whoever passes now and did not before got 9, and is of the kind that the request names
+  -- whoever gets another number now, and so whoever passes now and did not before, got 9, and is of the kind that the request names
   pub who-gains :
-      (m : Master) → Given m → apply m start .number ≡ completed → (numberBefore m ≡ completed → ⊥)
+      (m : Master) → Given m → m .state ≡ state.ready → (apply m start .number ≡ numberBefore m → ⊥)
       → (numberBefore m ≡ nameDiffers) × Gains m
   -- so is every client that passes now and did not before
   pub no-other :

@@ -36,22 +36,22 @@ fn agree_under(mask: u64, a: u64, b: u64) -> bool
 }
 
 // The master NAMEs agree under the mask where each is its client's own NAME, and else in all 64 bits.
-fn masters_agree(own: bool, mask: u64, loaded: u64, stored: u64) -> bool
-    ensures { λ r. ⌜ r ≡ mastersAgree own mask loaded stored ⌝ }
+fn masters_agree(owned: bool, mask: u64, loaded: u64, recorded: u64) -> bool
+    ensures { λ r. ⌜ r ≡ mastersAgree owned mask loaded recorded ⌝ }
 {
-    if own {
-        return agree_under(mask, loaded, stored);
+    if owned {
+        return agree_under(mask, loaded, recorded);
     }
-    loaded == stored
+    loaded == recorded
 }
 
 fn names_agree(client: Client, recorded: ClientRecord) -> bool
     ensures { λ r. ⌜ r ≡ namesAgree client recorded ⌝ }
 {
     let profile = client.profile;
-    let own = (recorded.master == recorded.name) & (profile.master == client.name);
+    let owned = (recorded.master == recorded.name) & (profile.master == client.name);
     agree_under(profile.mask, client.name, recorded.name)
-        & masters_agree(own, profile.mask, profile.master, recorded.master)
+        & masters_agree(owned, profile.mask, profile.master, recorded.master)
 }
 
 fn same_bytes(a: [u8; 63], b: [u8; 63]) -> bool

@@ -25,15 +25,13 @@ use Rattle.recording.specs.Promises.{SoundSequence}
 use Rattle.playback.specs.Pairs.{pairs}
 use Rattle.playback.specs.Verification.{Check, firstFailing, namesAgree, sameLabel, labelsAgree, isListed, isInPool, ofSequence, clientChecks, stepChecks, readyChecks, checksBy, checksOf, verifyOf}
 use Rattle.playback.proofs.Agrees.{agrees}
-use Rattle.playback.proofs.Pairs.{length-pairs, getD-pairs}
 use Rattle.playback.proofs.Verifies.{verifies}
 use Rattle.master.specs.declared.Master.{Master}
 use Rattle.master.specs.Call.{slotAt}
-use Rattle.events.specs.Events.{Given}
-use Rattle.events.specs.Neighbour.{recordAt}
+use Rattle.events.specs.Events.{Given, recordAt}
 use Rattle.events.proofs.Choices.{is-true}
 use Rattle.events.proofs.Regular.{length-steps, given-regular}
-use Rattle.events.proofs.Playable.{given-eight}
+use Rattle.events.proofs.Playable.{given-eight, eight-pairs, pair-at}
 use Rattle.seen.specs.Numbers.{Not, stepOf, Uses, SameName, SameLabels, slotChecks, slotsFrom, Listed, SomeUnlisted, SomeIdle, verification}
 use Rattle.seen.proofs.Tests.{some-at, none-at}
 use Rattle.seen.proofs.Says.{Says, equal, below, negated, both-say, where-says, same-words, three-say, Tells, done, first, enabled}
@@ -139,22 +137,15 @@ module _ (m : Master) (g : Given m) where
   abbrev clients : List (Client × ClientRecord)
   clients = pairs (m .slots) (q .records)
 
-  eight-pairs : length clients ≡ 8
-  eight-pairs = length-pairs (m .slots) (q .records) 8 (given-eight m g) (sound .slots)
-
-  pair-at : (slot : ℕ) → slot < 8 → getD clients slot (noSlot, blankRecord) ≡ (slotAt m slot, recordAt m slot)
-  pair-at slot l =
-      getD-pairs (m .slots) (q .records) slot noSlot blankRecord (omega (arith, l, given-eight m g)) (omega (arith, l, sound .slots))
-
   slots-tell :
       (n slot : ℕ) → slot + n ≡ 8 → (d : ℕ) (rest : ℕ → Type 0) → Tells d rest
       → Tells (fails (flatMap (clientChecks namesAgree) (drop slot clients)) d) (slotsFrom m slot n rest)
   unfolding flatMap
-  slots-tell zero slot e d rest t = rw (drop-of-length-le clients {i = slot} (omega (arith, e, eight-pairs))) t
+  slots-tell zero slot e d rest t = rw (drop-of-length-le clients {i = slot} (omega (arith, e, eight-pairs m g))) t
   slots-tell (suc n) slot e d rest t =
       let l : slot < 8 = omega arith in
       let later = slots-tell n (suc slot) (omega arith) d rest t in
-      rw (drop-cons clients slot (noSlot, blankRecord) (omega (arith, l, eight-pairs)), pair-at slot l, fails-append (clientChecks namesAgree (slotAt m slot, recordAt m slot)) (flatMap (clientChecks namesAgree) (drop (suc slot) clients)) d)
+      rw (drop-cons clients slot (noSlot, blankRecord) (omega (arith, l, eight-pairs m g)), pair-at m g slot l, fails-append (clientChecks namesAgree (slotAt m slot, recordAt m slot)) (flatMap (clientChecks namesAgree) (drop (suc slot) clients)) d)
       (slot-tells slot l _ _ later)
 
   -- ---- 11
@@ -198,18 +189,18 @@ module _ (m : Master) (g : Given m) where
 
   idle-at : (slot : ℕ) → slot < 8 → Says (isIdle (getD clients slot (noSlot, blankRecord))) (Uses m slot × Not (slotAt m slot .report ≡ 1))
   unfolding isIdle
-  idle-at slot l = rw (pair-at slot l) (both-say _ _ _ _ (used slot l) (negated _ _ (equal (slotAt m slot .report) 1)))
+  idle-at slot l = rw (pair-at m g slot l) (both-say _ _ _ _ (used slot l) (negated _ _ (equal (slotAt m slot .report) 1)))
 
   idle : Says (some isIdle clients) (SomeIdle m)
   idle =
       subst (λ (l : List (Client × ClientRecord)). Says (some isIdle l) (SomeIdle m)) (take-length clients)
       (same-words
       (among isIdle (λ slot. Uses m slot × Not (slotAt m slot .report ≡ 1)) clients (length clients) (noSlot, blankRecord) (omega arith)
-      (λ slot l. idle-at slot (omega (arith, l, eight-pairs))))
+      (λ slot l. idle-at slot (omega (arith, l, eight-pairs m g))))
       (λ (slot, (l, w)). (slot, w), λ (slot, w). (slot, (in-pairs slot (w .0), w))))
     where
       in-pairs : (slot : ℕ) → Uses m slot → slot < length clients
-      in-pairs slot (i, (l, e)) = omega (arith, within i l, e, eight-pairs)
+      in-pairs slot (i, (l, e)) = omega (arith, within i l, e, eight-pairs m g)
 
   -- ---- all of them
 

@@ -13,8 +13,7 @@ use Rattle.client.specs.{declared.Client.Client, declared.ClientRecord.ClientRe
 use Rattle.sequence.specs.{Sequence.blankStep, declared.Step.Step}
 use Rattle.playback.specs.State.{blankSent}
 use Rattle.master.specs.{declared.Master.Master, Call.slotAt}
-use Rattle.events.specs.Events.{Event, on, off, «record», stop, cancel, start, abort, attach, enable, disable, report, lost, indication, clientAbort, tick, answer, apply, Given}
-use Rattle.events.specs.Neighbour.{recordAt}
+use Rattle.events.specs.Events.{Event, on, off, «record», stop, cancel, start, abort, attach, enable, disable, report, lost, indication, clientAbort, tick, answer, apply, Given, recordAt}
 use Rattle.seen.specs.Words.{nth, Enabled, InRecording}
 
 abbrev pub Not : Type 0 → Type 0
