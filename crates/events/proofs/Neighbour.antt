@@ -2,7 +2,7 @@
 use Prim.Native.Nat.{ℕ, _^_, _<_}
 use mathlib.Core.Path.{_≡_, refl, sym, ap, subst, _∙_}
 use mathlib.Core.Bool.{Bool, true, false, _&&_, true≢false, and-false}
-use mathlib.Core.Logic.{_⊎_, inl, inr}
+use mathlib.Core.Logic.{inl, inr}
 use native.Mathlib.Omega.{arith}
 use lib.Bits.{bitAnd}
 use lib.Dec.{eqb}
@@ -24,7 +24,7 @@ use Rattle.events.specs.Events.{start, apply, Given, recordAt}
 use Rattle.events.specs.Neighbour.{inAllBits, numberBefore, Neighbour, Gains, Neighbours}
 use Rattle.events.proofs.Starts.{ready-number, start-exactly}
 use Rattle.events.proofs.Playable.{client-holds, eight-pairs, pair-at, client-at}
-use Rattle.events.proofs.Rules.{Parts, PartsIn, either}
+use Rattle.events.proofs.Rules.{Parts, Either, either}
 
 -- ---- the two rules
 
@@ -70,31 +70,28 @@ module _ (s : Client) (c : ClientRecord) where
 -- ---- a start
 
 module _ (m : Master) where
-  -- the same number by both, or 9 before and a client at which the two part
-  abbrev Either : Type 0
-  Either =
-      (numberBefore m ≡ verifyOf (m .slots) (m .sequence))
-      ⊎ ((numberBefore m ≡ nameDiffers) × PartsIn inAllBits namesAgree takes (pairs (m .slots) (m .sequence .records)))
+  abbrev Compared : Type 0
+  Compared = Either inAllBits namesAgree (numberBefore m) (verifyOf (m .slots) (m .sequence)) (pairs (m .slots) (m .sequence .records))
 
-  compared : Either
+  compared : Compared
   unfolding verifyOf
   compared = either inAllBits namesAgree takes (m .slots) (m .sequence)
 
   nobody-loses : m .state ≡ state.ready → (numberBefore m ≡ nameDiffers → ⊥) → apply m start .number ≡ numberBefore m
   nobody-loses s h = go compared
     where
-      go : Either → apply m start .number ≡ numberBefore m
+      go : Compared → apply m start .number ≡ numberBefore m
       go (inl e) = ready-number m s ∙ sym e
       go (inr (e, _)) = absurd (h e)
 
   who-gains : Given m → m .state ≡ state.ready → (apply m start .number ≡ numberBefore m → ⊥) → (numberBefore m ≡ nameDiffers) × Gains m
   who-gains g s h = go compared
     where
-      go : Either → (numberBefore m ≡ nameDiffers) × Gains m
+      go : Compared → (numberBefore m ≡ nameDiffers) × Gains m
       go (inl e) = absurd (h (ready-number m s ∙ sym e))
       go (inr (e, (slot, l, p))) =
           let k : slot < 8 = omega (arith, l, eight-pairs m g) in
-          let (u, n, w) = subst (Parts inAllBits namesAgree takes) (pair-at m g slot k) p in
+          let (u, n, w) = subst (Parts inAllBits namesAgree) (pair-at m g slot k) p in
           (e, record { slot = slot; one-of-eight = k; of-sequence = u; neighbour = kind (slotAt m slot) (recordAt m slot) n w })
 
   no-other :

@@ -40,25 +40,29 @@ meets true true true false c r r′ h = absurd (true≢false (sym (h refl)))
 meets true true true true false r r′ h = inl refl
 meets true true true true true r r′ h = inr (inl (refl, refl))
 
-module _ (narrow wide : Rule) (takes : (s : Client) (c : ClientRecord) → narrow s c ≡ true → wide s c ≡ true) where
+module _ (narrow wide : Rule) where
   -- a client of the sequence that the wide rule takes, and the narrow one does not
   abbrev pub Parts : Client × ClientRecord → Type 0
   Parts x = (isUsed (x .1) ≡ true) × (narrow (x .0) (x .1) ≡ false) × (wide (x .0) (x .1) ≡ true)
 
-  abbrev pub PartsIn : List (Client × ClientRecord) → Type 0
+  abbrev PartsIn : List (Client × ClientRecord) → Type 0
   PartsIn l = (k : ℕ) × (k < length l) × Parts (getD l k (noSlot, blankRecord))
 
-  abbrev Either : ℕ → ℕ → List (Client × ClientRecord) → Type 0
+  -- two numbers, by the narrow rule and by the wide one: the same, or 9 by the narrow one, and a client at which the two part
+  abbrev pub Either : ℕ → ℕ → List (Client × ClientRecord) → Type 0
   Either n w l = (n ≡ w) ⊎ ((n ≡ nameDiffers) × PartsIn l)
+
+  abbrev MeetsAt : Client × ClientRecord → List Check → List Check → Type 0
+  MeetsAt x r r′ = Meets (isUsed (x .1)) (isEnabled (x .0)) (narrow (x .0) (x .1)) (wide (x .0) (x .1)) (labelsAgree (x .0) (x .1)) r r′
+
+module _ (narrow wide : Rule) (takes : (s : Client) (c : ClientRecord) → narrow s c ≡ true → wide s c ≡ true) where
+  here : (x : Client × ClientRecord) (r r′ : List Check) → MeetsAt narrow wide x r r′
+  here x r r′ = meets _ _ _ _ _ r r′ (takes (x .0) (x .1))
 
   by : Rule → List (Client × ClientRecord) → List Check → ℕ
   by agree l rest = firstFailing (flatMap (clientChecks agree) l ++ rest)
 
-  here : (x : Client × ClientRecord) (r r′ : List Check)
-      → Meets (isUsed (x .1)) (isEnabled (x .0)) (narrow (x .0) (x .1)) (wide (x .0) (x .1)) (labelsAgree (x .0) (x .1)) r r′
-  here x r r′ = meets _ _ _ _ _ r r′ (takes (x .0) (x .1))
-
-  clients : (l : List (Client × ClientRecord)) (rest : List Check) → Either (by narrow l rest) (by wide l rest) l
+  clients : (l : List (Client × ClientRecord)) (rest : List Check) → Either narrow wide (by narrow l rest) (by wide l rest) l
   unfolding flatMap by ofSequence clientChecks
   clients [] rest = inl refl
   clients (x ∷ l) rest = go (here x (flatMap (clientChecks narrow) l ++ rest) (flatMap (clientChecks wide) l ++ rest)) (clients l rest)
@@ -66,18 +70,18 @@ module _ (narrow wide : Rule) (takes : (s : Client) (c : ClientRecord) → narro
       after : (agree : Rule) → by agree (x ∷ l) rest ≡ firstFailing (clientChecks agree x ++ (flatMap (clientChecks agree) l ++ rest))
       after agree = ap firstFailing (append-assoc (clientChecks agree x) (flatMap (clientChecks agree) l) rest)
 
-      go : Meets (isUsed (x .1)) (isEnabled (x .0)) (narrow (x .0) (x .1)) (wide (x .0) (x .1)) (labelsAgree (x .0) (x .1)) (flatMap (clientChecks narrow) l ++ rest) (flatMap (clientChecks wide) l ++ rest)
-          → Either (by narrow l rest) (by wide l rest) l → Either (by narrow (x ∷ l) rest) (by wide (x ∷ l) rest) (x ∷ l)
+      go : MeetsAt narrow wide x (flatMap (clientChecks narrow) l ++ rest) (flatMap (clientChecks wide) l ++ rest)
+          → Either narrow wide (by narrow l rest) (by wide l rest) l → Either narrow wide (by narrow (x ∷ l) rest) (by wide (x ∷ l) rest) (x ∷ l)
       go (inl e) later = inl (after narrow ∙ e ∙ sym (after wide))
       go (inr (inl (n, w))) (inl e) = inl (after narrow ∙ n ∙ e ∙ sym (after wide ∙ w))
       go (inr (inl (n, w))) (inr (e, (k, l, p))) = inr (after narrow ∙ n ∙ e, (suc k, omega arith, p))
       go (inr (inr (n, p))) later = inr (after narrow ∙ n, (0, omega arith, p))
 
   pub either : (slots : List Client) (q : Sequence)
-      → Either (firstFailing (checksBy narrow slots q)) (firstFailing (checksBy wide slots q)) (pairs slots (q .records))
+      → Either narrow wide (firstFailing (checksBy narrow slots q)) (firstFailing (checksBy wide slots q)) (pairs slots (q .records))
   unfolding pick firstFailing by checksBy
   either slots q = go (not (eqb (q .count) 0)) (clients (pairs slots (q .records)) _)
     where
-      go : (b : Bool) {n w : ℕ} → Either n w (pairs slots (q .records)) → Either (pick b n noStep) (pick b w noStep) (pairs slots (q .records))
+      go : (b : Bool) {n w : ℕ} → Either narrow wide n w (pairs slots (q .records)) → Either narrow wide (pick b n noStep) (pick b w noStep) (pairs slots (q .records))
       go true e = e
       go false e = inl refl

@@ -39,11 +39,11 @@ pub record Gains (m : Master) : Type 0 where
 pub record Neighbours : Type 0 where
   -- whoever passed before passes still, and whoever got another number than 9 gets it still
   pub nobody-loses : (m : Master) → m .state ≡ state.ready → (numberBefore m ≡ nameDiffers → ⊥) → apply m start .number ≡ numberBefore m
-  -- whoever gets another number now, and so whoever passes now and did not before, got 9, and is of the kind that the request names
+  -- whoever gets another number now, and so whoever passes now and did not before, got 9, and has a client of the kind that the request names
   pub who-gains :
       (m : Master) → Given m → m .state ≡ state.ready → (apply m start .number ≡ numberBefore m → ⊥)
       → (numberBefore m ≡ nameDiffers) × Gains m
-  -- so is every client that passes now and did not before
+  -- of that kind is every client of an accepted start that 01's rule does not take
   pub no-other :
       (m : Master) → Given m → apply m start .number ≡ completed → (slot : ℕ) → slot < slotCount → isUsed (recordAt m slot) ≡ true
       → inAllBits (slotAt m slot) (recordAt m slot) ≡ false → Neighbour (slotAt m slot) (recordAt m slot)

@@ -45,7 +45,7 @@ pub record Sample : Type 0 where
   -- 02, request 2: the neighbour's identical drill starts, and got 9 before: `Neighbours` does not speak of nothing
   pub neighbour : apply (exchanged 7 8) start .number ≡ completed
   pub gained : numberBefore (exchanged 7 8) ≡ nameDiffers
-  -- where the loaded or the stored master NAME is another machine's, 9; where both are the same machine's, it starts, as before
+  -- where the loaded master NAME alone is a third machine's, or the stored one alone, 9; where both are, it starts, as before
   pub loaded-elsewhere : apply (exchanged 7 9) start .number ≡ nameDiffers
   pub stored-elsewhere : apply (exchanged 9 8) start .number ≡ nameDiffers
   pub same-elsewhere : apply (exchanged 9 9) start .number ≡ completed
