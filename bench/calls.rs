@@ -1,6 +1,6 @@
 //! The library's calls by value, as include/scm.h declares them, and nothing around them: those that take no master.
 
-use crate::library::{Message, MessageReading, Object, Profile, Rewritten, Shown, Verdict, Written};
+use crate::library::{Message, MessageReading, Object, Placed, Profile, Rewritten, Shown, Verdict, Written};
 use crate::stack::note;
 
 extern "C" {
@@ -8,11 +8,13 @@ extern "C" {
     fn scm_profile_of(pool: *const u8, len: usize) -> Profile;
     fn scm_object_at(pool: *const u8, len: usize, place: usize) -> Object;
     fn scm_pool_rewrite(pool: *const u8, len: usize, out: *mut u8, out_len: usize) -> Rewritten;
+    fn scm_write_object(object: Object, place: usize, out: *mut u8, out_len: usize) -> Placed;
     fn scm_read(side: u32, bytes: *const u8, len: usize) -> MessageReading;
     fn scm_write(message: Message, out: *mut u8, len: usize) -> Written;
     fn scm_write_transfer(pool: *const u8, pool_len: usize, out: *mut u8, len: usize) -> Written;
     fn scm_shown_of(value: u32, offset: i32, scale: f32) -> Shown;
     fn scm_shown_bits(value: u32, offset: i32, scale: u32) -> Shown;
+    fn scm_version() -> u32;
 }
 
 // SAFETY, of every call below: the structs are those of the interface, and each pointer and length are those of one
@@ -48,6 +50,11 @@ pub fn pool_rewrite(pool: &[u8], out: &mut [u8]) -> Rewritten {
 }
 
 #[inline(never)]
+pub fn write_object(object: &Object, place: usize, out: &mut [u8]) -> Placed {
+    noted(|| unsafe { scm_write_object(*object, place, out.as_mut_ptr(), out.len()) })
+}
+
+#[inline(never)]
 pub fn read(side: u32, bytes: &[u8]) -> MessageReading {
     noted(|| unsafe { scm_read(side, bytes.as_ptr(), bytes.len()) })
 }
@@ -70,4 +77,9 @@ pub fn shown_of(value: u32, offset: i32, scale: f32) -> Shown {
 #[inline(never)]
 pub fn shown_bits(value: u32, offset: i32, scale: u32) -> Shown {
     noted(|| unsafe { scm_shown_bits(value, offset, scale) })
+}
+
+#[inline(never)]
+pub fn version() -> u32 {
+    noted(|| unsafe { scm_version() })
 }

@@ -2,10 +2,12 @@
 
 use crate::calls::noted;
 use crate::event::Event;
-use crate::library::{ClientResult, Master, Outcome, SlotResult, StepResult};
+use crate::library::{CheckResult, ClientResult, Master, Outcome, Playback, ProgressView, Recording};
+use crate::library::{SentResult, Sequence, SlotResult, StepResult, TakenResult};
 use crate::stack::note;
 use std::arch::asm;
 use std::mem::{size_of, MaybeUninit};
+use std::ptr::addr_of;
 
 extern "C" {
     fn scm_master_new() -> Master;
@@ -25,22 +27,27 @@ extern "C" {
     fn scm_master_abort(m: Master) -> Outcome;
     fn scm_master_tick(m: Master, mm: u32, frames: *mut u8, frames_len: usize) -> Outcome;
     fn scm_master_answer(m: Master, slot: usize, msg: *const u8, msg_len: usize, out: *mut u8, out_len: usize) -> Outcome;
-    fn scm_master_state(m: Master) -> u8;
+    fn scm_master_state(state: u8) -> u8;
     fn scm_master_slot(m: Master, slot: usize) -> SlotResult;
-    fn scm_master_step_count(m: Master) -> usize;
-    fn scm_master_step(m: Master, i: usize) -> StepResult;
-    fn scm_master_client(m: Master, slot: usize) -> ClientResult;
+    fn scm_master_step_count(sequence: Sequence) -> usize;
+    fn scm_master_step(sequence: Sequence, i: usize) -> StepResult;
+    fn scm_master_client(sequence: Sequence, slot: usize) -> ClientResult;
+    fn scm_master_progress(state: u8, recording: Recording, playback: Playback) -> ProgressView;
+    fn scm_master_taken(recording: Recording, i: usize) -> TakenResult;
+    fn scm_master_sent(playback: Playback, i: usize) -> SentResult;
+    fn scm_master_verify(m: Master) -> CheckResult;
 }
 
 // SAFETY, of every call below: the structs are those of the interface, and each pointer and length are those of one
 // slice, lent for the call.
 
-/// Hands a master over by value: one copy, to where the C convention has it, below the caller's frame. (Rust's compilers
-/// make one copy or two, by their age.) The other arguments, numbers, go in six registers; two are given back.
+/// Hands a struct over by value, a master or a part of it: one copy, to where the C convention has it, below the caller's frame, at a multiple of 16.
+/// (Rust's compilers make one copy or two, by their age.) The other arguments, numbers, go in six registers; two are given back.
 #[inline(never)]
-unsafe fn hand_over(call: *const (), m: &Master, arguments: [usize; 6]) -> [u64; 2] {
+unsafe fn hand_over<T>(call: *const (), it: &T, arguments: [usize; 6]) -> [u64; 2] {
     let (first, second);
-    note(size_of::<Master>());
+    let room = (size_of::<T>() + 15) / 16 * 16;
+    note(room);
     asm!(
         "sub rsp, r15",
         "mov rdi, rsp",
@@ -50,9 +57,9 @@ unsafe fn hand_over(call: *const (), m: &Master, arguments: [usize; 6]) -> [u64;
         "mov rcx, r14",
         "call rax",
         "add rsp, r15",
-        in("r15") size_of::<Master>(),
-        in("rsi") m,
-        in("rcx") size_of::<Master>() / 8,
+        in("r15") room,
+        in("rsi") it,
+        in("rcx") size_of::<T>() / 8,
         in("r12") arguments[0],
         in("r13") arguments[1],
         inlateout("rdx") arguments[2] => second,
@@ -70,8 +77,9 @@ pub fn new() -> Master {
     noted(|| unsafe { scm_master_new() })
 }
 
+#[inline(never)]
 pub fn state(m: &Master) -> u8 {
-    unsafe { hand_over(scm_master_state as *const (), m, [0; 6])[0] as u8 }
+    noted(|| unsafe { scm_master_state(m.state) })
 }
 
 /// A struct of 16 bytes comes back in the two registers.
@@ -81,21 +89,52 @@ pub fn slot(m: &Master, slot: usize) -> SlotResult {
 }
 
 pub fn step_count(m: &Master) -> usize {
-    unsafe { hand_over(scm_master_step_count as *const (), m, [0; 6])[0] as usize }
+    unsafe { hand_over(scm_master_step_count as *const (), &m.sequence, [0; 6])[0] as usize }
 }
 
 /// A struct of 16 bytes comes back in the two registers.
 pub fn step(m: &Master, i: usize) -> StepResult {
-    let given = unsafe { hand_over(scm_master_step as *const (), m, [i, 0, 0, 0, 0, 0]) };
+    let given = unsafe { hand_over(scm_master_step as *const (), &m.sequence, [i, 0, 0, 0, 0, 0]) };
     unsafe { *given.as_ptr().cast() }
 }
 
+/// Where a larger struct is written, which is the first argument.
+unsafe fn written<T, R>(call: *const (), it: &T, argument: usize) -> R {
+    let mut given = MaybeUninit::<R>::uninit();
+    hand_over(call, it, [given.as_mut_ptr() as usize, argument, 0, 0, 0, 0]);
+    given.assume_init()
+}
+
 pub fn client(m: &Master, slot: usize) -> ClientResult {
-    let mut given = MaybeUninit::<ClientResult>::uninit();
-    unsafe {
-        hand_over(scm_master_client as *const (), m, [given.as_mut_ptr() as usize, slot, 0, 0, 0, 0]);
-        given.assume_init()
-    }
+    unsafe { written(scm_master_client as *const (), &m.sequence, slot) }
+}
+
+/// Two parts, one behind the other, as they stand in the master and as the C convention has them.
+#[repr(C)]
+pub struct Parts {
+    recording: Recording,
+    playback: Playback,
+}
+
+pub fn progress(m: &Master) -> ProgressView {
+    let master: *const Master = m;
+    let parts = unsafe { &*addr_of!((*master).recording).cast::<Parts>() };
+    let given = unsafe { hand_over(scm_master_progress as *const (), parts, [usize::from(m.state), 0, 0, 0, 0, 0]) };
+    unsafe { *given.as_ptr().cast() }
+}
+
+pub fn taken(m: &Master, i: usize) -> TakenResult {
+    unsafe { written(scm_master_taken as *const (), &m.recording, i) }
+}
+
+/// A struct of 12 bytes comes back in the two registers.
+pub fn sent(m: &Master, i: usize) -> SentResult {
+    let given = unsafe { hand_over(scm_master_sent as *const (), &m.playback, [i, 0, 0, 0, 0, 0]) };
+    unsafe { *given.as_ptr().cast() }
+}
+
+pub fn verify(m: &Master) -> CheckResult {
+    unsafe { written(scm_master_verify as *const (), m, 0) }
 }
 
 /// The outcome is written where it is wanted, which is the first argument.

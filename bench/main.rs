@@ -68,6 +68,14 @@ const COPIES: f64 = 5.0;
 /// The most bytes of stack of a call with its structs; an attach judges its pool on it, which takes 32 KB by itself.
 const STACK: usize = 131_072;
 const ATTACH_STACK: usize = 135_168;
+/// Of a verification, which is handed a whole master and gives none back, the most of both.
+const VERIFY_COPIES: f64 = 2.0;
+const VERIFY_STACK: usize = 73_728;
+/// The readers that are handed the parts of a master that they read, and the most of both for them; so much stack for an object too.
+const READERS: [&str; 7] = ["scm_state", "scm_step_count", "scm_step", "scm_client", "scm_progress", "scm_taken", "scm_sent"];
+const PART_COPIES: f64 = 0.2;
+const PART_STACK: usize = 5_120;
+const OBJECTS: [&str; 2] = ["scm_object_at", "scm_object_write"];
 /// 100 ms, in nanoseconds.
 const TICK: f64 = 1e8;
 
@@ -123,14 +131,22 @@ fn many_copies(rows: &[Row], bytes: &[Bytes]) -> Vec<String> {
     let limit = |row: &Row| match row.call {
         "scm_tick" => TICK_COPIES,
         "scm_attach" => COPIES + judged(row.case),
+        "scm_verify" => VERIFY_COPIES,
+        call if READERS.contains(&call) => PART_COPIES,
         _ => COPIES,
     };
-    let above = rows.iter().zip(bytes).filter(|(row, bytes)| row.on_master && bytes.copies > limit(row));
+    let limited = |row: &Row| row.on_master || READERS.contains(&row.call);
+    let above = rows.iter().zip(bytes).filter(|(row, bytes)| limited(row) && bytes.copies > limit(row));
     above.map(|(row, bytes)| format!("{}: {:.1} copies, limit {:.1}", row.name(), bytes.copies, limit(row))).collect()
 }
 
 fn deep_stacks(rows: &[Row], bytes: &[Bytes]) -> Vec<String> {
-    let limit = |row: &Row| if row.call == "scm_attach" { ATTACH_STACK } else { STACK };
+    let limit = |row: &Row| match row.call {
+        "scm_attach" => ATTACH_STACK,
+        "scm_verify" => VERIFY_STACK,
+        call if READERS.contains(&call) || OBJECTS.contains(&call) => PART_STACK,
+        _ => STACK,
+    };
     let above = rows.iter().zip(bytes).filter(|(row, bytes)| bytes.stack > limit(row));
     above.map(|(row, bytes)| format!("{}: {} bytes of stack with its structs, limit {}", row.name(), bytes.stack, limit(row))).collect()
 }

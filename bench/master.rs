@@ -2,9 +2,9 @@
 
 use crate::event::Event;
 use crate::handed;
-use crate::library::{ClientResult, Master, Outcome};
+use crate::library::{CheckResult, ClientResult, Master, Outcome, Playback, Recording, Sequence, TakenResult};
 use crate::messages::Status;
-use crate::model;
+use crate::model::{self, State};
 use crate::pools;
 use crate::rows::{row, Row};
 use crate::states::{answer, indication, playing, ready, record, record_complete, recorded, tick, Pair};
@@ -104,17 +104,42 @@ fn other_events() -> Vec<Named> {
     ]
 }
 
-/// The model reads what the library is handed a copy of.
+/// The model reads what the library is handed a copy of: the part of the master that a reader needs.
 fn readers() -> Vec<Row> {
     let pair = recorded(8, 64);
-    let one = size_of::<Master>();
+    let (whole, sequence) = (size_of::<Master>(), size_of::<Sequence>());
+    let client = sequence + size_of::<ClientResult>();
+    let mut rows = vec![
+        row(("scm_init", ""), whole, (), |_| u64::from(handed::new().state), |_| model_new()),
+        row(("scm_state", ""), 0, pair.clone(), |pair| u64::from(handed::state(&pair.library)), model_state),
+        row(("scm_slot", ""), whole, pair.clone(), |pair| library_slot(&pair.library), model_slot),
+        row(("scm_step_count", ""), sequence, pair.clone(), |pair| handed::step_count(&pair.library) as u64, model_count),
+        row(("scm_step", "the last of 64"), sequence, pair.clone(), |pair| library_step(&pair.library), model_step),
+        row(("scm_client", ""), client, pair.clone(), |pair| library_client(&pair.library), model_client),
+    ];
+    rows.extend(progress_readers());
+    rows.extend(verifications(pair));
+    rows
+}
+
+fn progress_readers() -> Vec<Row> {
+    let (recording, playback) = (size_of::<Recording>(), size_of::<Playback>());
+    let taken = recording + size_of::<TakenResult>();
     vec![
-        row(("scm_init", ""), one, (), |_| u64::from(handed::new().state), |_| model_new()),
-        row(("scm_state", ""), one, pair.clone(), |pair| u64::from(handed::state(&pair.library)), model_state),
-        row(("scm_slot", ""), one, pair.clone(), |pair| library_slot(&pair.library), model_slot),
-        row(("scm_step_count", ""), one, pair.clone(), |pair| handed::step_count(&pair.library) as u64, model_count),
-        row(("scm_step", "the last of 64"), one, pair.clone(), |pair| library_step(&pair.library), model_step),
-        row(("scm_client", ""), one + size_of::<ClientResult>(), pair, |pair| library_client(&pair.library), model_client),
+        row(("scm_progress", "in record, 64 steps"), recording + playback, record(8, 64), library_progress, model_progress),
+        row(("scm_progress", "in playback, 64 steps"), recording + playback, playing(64, 15), library_progress, model_progress),
+        row(("scm_taken", "the last of 64"), taken, record(8, 64), library_taken, model_taken),
+        row(("scm_sent", "the last of 64"), playback, playing(64, 15), library_sent, model_sent),
+    ]
+}
+
+/// Every check holds, or the last one does not.
+fn verifications(pair: Pair) -> Vec<Row> {
+    let structs = size_of::<Master>() + size_of::<CheckResult>();
+    let late = pair.clone().after(Event::Report { slot: 7, report: 2 });
+    vec![
+        row(("scm_verify", "8 clients, 64 steps"), structs, pair, library_verify, model_verify),
+        row(("scm_verify", "the last check does not hold"), structs, late, library_verify, model_verify),
     ]
 }
 
@@ -157,4 +182,49 @@ fn library_client(master: &Master) -> u64 {
 fn model_client(pair: &Pair) -> u64 {
     let client = pair.model.sequence.clients.get(&7);
     client.map_or(3, |it| it.master_name ^ it.name ^ (it.version_label.len() as u64) << 32)
+}
+
+fn library_progress(pair: &Pair) -> u64 {
+    let it = handed::progress(&pair.library);
+    u64::from(it.distance) << 32 ^ u64::from(it.ticks) << 8 ^ it.count as u64
+}
+
+fn model_progress(pair: &Pair) -> u64 {
+    let (ticks, millimetres, count) = match &pair.model.state {
+        State::Record(it) => (it.ticks, it.millimetres, it.steps.len()),
+        State::Playback(it) => (it.ticks, it.millimetres, it.commands.len()),
+        _ => (0, 0, 0),
+    };
+    u64::from(millimetres) << 32 ^ u64::from(ticks) << 8 ^ count as u64
+}
+
+fn library_taken(pair: &Pair) -> u64 {
+    let it = handed::taken(&pair.library, 63);
+    u64::from(it.taken.step.value) << 32 | u64::from(it.number) << 16 | u64::from(it.taken.step.function) << 8 | u64::from(it.taken.tan)
+}
+
+fn model_taken(pair: &Pair) -> u64 {
+    let taken = pair.model.recording().and_then(|recording| recording.steps.get(63));
+    taken.map_or(3 << 16, |it| u64::from(it.step.value) << 32 | u64::from(it.step.function) << 8 | u64::from(it.tan))
+}
+
+fn library_sent(pair: &Pair) -> u64 {
+    let it = handed::sent(&pair.library, 63);
+    u64::from(it.sent.left) << 32 | u64::from(it.number) << 16 | u64::from(it.sent.tan)
+}
+
+fn model_sent(pair: &Pair) -> u64 {
+    match &pair.model.state {
+        State::Playback(it) => it.commands.get(63).map_or(3 << 16, |it| u64::from(it.left) << 32 | u64::from(it.tan)),
+        _ => 3 << 16,
+    }
+}
+
+fn library_verify(pair: &Pair) -> u64 {
+    let it = handed::verify(&pair.library);
+    u64::from(it.number) << 32 | (it.slot as u64) << 8 | it.step as u64
+}
+
+fn model_verify(pair: &Pair) -> u64 {
+    pair.model.verify().map_or_else(|it| u64::from(it.refused.number) << 32 | (it.slot as u64) << 8 | it.step as u64, |()| 0)
 }

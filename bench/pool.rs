@@ -2,7 +2,7 @@
 
 use crate::calls;
 use crate::kept;
-use crate::library::{Message, MessageReading, Object, Profile, Shown};
+use crate::library::{self, Message, MessageReading, Object, Profile, Shown};
 use crate::message;
 use crate::objects;
 use crate::pools;
@@ -48,6 +48,7 @@ fn on_pools() -> Vec<Row> {
     let kept = |case, pool| row(("scm_profile_of", case), size_of::<Profile>(), pool, library_kept, model_kept);
     let object = |case, at| row(("scm_object_at", case), size_of::<Object>(), at, library_object, model_object);
     let rewrite = |case, pool| row(("scm_pool_rewrite", case), 0, lent(pool), library_rewrite, model_rewrite);
+    let write = |case, at| row(("scm_object_write", case), size_of::<Object>(), to_write_object(at), library_place, model_place);
     vec![
         kept("61 bytes", pools::small()),
         kept("40 functions of 8 states", pools::middle()),
@@ -56,6 +57,8 @@ fn on_pools() -> Vec<Row> {
         kept("long lists of alike numbers", pools::alike_numbers()),
         object("a state", (pools::many_states(), generate::FULL - 8)),
         object("a base that lists 255 functions", base_first()),
+        write("a state", (pools::many_states(), generate::FULL - 8)),
+        write("a base that lists 255 functions", base_first()),
         rewrite("61 bytes", pools::small()),
         rewrite("16,384 bytes, many states", pools::many_states()),
         rewrite("16,384 bytes, long lists", pools::long_lists()),
@@ -86,6 +89,23 @@ fn library_object((pool, place): &(Vec<u8>, usize)) -> u64 {
 fn model_object((pool, place): &(Vec<u8>, usize)) -> u64 {
     let object = objects::object_at(pool, *place);
     object.next as u64 + (u64::from(object.number) << 32) + (u64::from(object.kind) << 56)
+}
+
+/// An object, the place where it stood, and bytes to write it there.
+type Placed = (Object, usize, RefCell<Vec<u8>>);
+
+fn to_write_object((pool, place): (Vec<u8>, usize)) -> Placed {
+    (objects::object_at(&pool, place), place, RefCell::new(vec![0; generate::FULL]))
+}
+
+fn library_place((object, place, out): &Placed) -> u64 {
+    let placed = calls::write_object(object, *place, &mut out.borrow_mut());
+    u64::from(placed.number) << 32 | placed.next as u64
+}
+
+fn model_place((object, place, out): &Placed) -> u64 {
+    let (number, next) = objects::write(object, *place, &mut out.borrow_mut());
+    u64::from(number) << 32 | next as u64
 }
 
 /// Bytes to be read, and lent ones to be written.
@@ -169,6 +189,7 @@ fn values() -> Vec<Row> {
     vec![
         row(("scm_shown", "240 - 40, scale 0.1"), 0, given, library_shown, model_shown),
         row(("scm_shown_bits", "240 - 40, scale 0.1"), 0, given, library_bits, model_shown),
+        row(("scm_version", ""), 0, (), |_| u64::from(calls::version()), |_| u64::from(library::header_version())),
     ]
 }
 

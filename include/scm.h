@@ -1,32 +1,81 @@
-/* The master (SCM) of ISO 11783-14, for a terminal's host in C. Link with libscm.a.
+/* scm.h: the master (SCM) of ISO 11783-14, for a terminal's host in C. Link with libscm.a; HOST.md is the guide, with an example of a whole program.
 
-   Every call takes all input: it never traps, and refuses bad input by a number of document 01. A pointer that is lent with a length points to
-   that many bytes; it is not NULL, even where the length is 0. */
+   Every call takes all input: any numbers, any bytes, in any order. It never traps and always returns. What it refuses, it refuses by a number of
+   enum scm_number; then the master and every lent byte are as they were. There is no start-up call, no global, no heap and no thread here.
+
+   Pointers. A pointer that comes with a length (pool, msg, bytes, out, frames) is lent memory: it points to that many bytes, and is not NULL, even
+   where the length is 0. A master, and an object or a message that is to be written, is not NULL. What a call reads and what it writes do not
+   overlap.
+
+   Out-parameters. One that is no lent memory (code, object, count, length, next, message, shown, view) may be NULL, and is not written then.
+   Otherwise it is always written, also where the call is refused: with 0 in it where there is nothing to say (next: the place that was passed). Lent
+   output is written with number 0 alone, and only where the call says; its other bytes stay.
+
+   Wrappers. The archive takes and gives structs by value. The inline functions here stand over its calls (scm_on over scm_master_on) and do nothing
+   but hand over and copy; they are what a host calls and what is explained. A call on a master takes up to 130 KB of stack; HOST.md has each
+   one's. */
 #ifndef SCM_H
 #define SCM_H
+
+#if !defined __SIZEOF_POINTER__ || __SIZEOF_POINTER__ != 8 || !defined __BYTE_ORDER__ || __BYTE_ORDER__ != __ORDER_LITTLE_ENDIAN__
+#error "scm.h and libscm.a are for x86-64 Linux: pointers of 64 bits, numbers with the least significant byte first"
+#else
 
 #include <stddef.h>
 #include <stdint.h>
 
+/* Internal: a fact about the layout that a compiler has to keep, or stop; see the end. */
 #ifdef __cplusplus
 #define SCM_HOLDS(fact) static_assert(fact, "not the layout of libscm.a: " #fact)
-extern "C" {
 #else
 #define SCM_HOLDS(fact) _Static_assert(fact, "not the layout of libscm.a: " #fact)
 #endif
 
-/* ---- The numbers that calls give back, from the table of document 01
+/* Marks a call whose result has to be looked at: a compiler that can warns where it is not. GCC takes no cast to void for looking at it in C. */
+#if defined __cplusplus && __cplusplus >= 201703L
+#define SCM_MUST_USE [[nodiscard]]
+#elif defined __GNUC__
+#define SCM_MUST_USE __attribute__((warn_unused_result))
+#else
+#define SCM_MUST_USE
+#endif
 
-   Where several apply: 1, 4, 3, 2, then the rest in the order that the call's own rule gives. Every number but SCM_OK leaves the master and
-   all lent memory (the bytes that are handed over with a length to be written in) unchanged. An out-parameter that is no lent memory (code,
-   object, count, length, a view, a message, a shown value) is written always, with 0 where there is nothing to say. */
+#ifdef __cplusplus
+extern "C" {
+#endif
+
+/* ---- Version */
+
+/* The version of this header: major * 1,000,000 + minor * 1,000 + patch. */
+#define SCM_VERSION 1000000u
+
+/* The version of the archive, counted likewise. A host compiled with this header wants SCM_VERSION: compare once, at its start. */
+SCM_MUST_USE uint32_t scm_version(void);
+
+/* ---- Sizes and limits */
+
+#define SCM_SLOTS          8u       /* slots for clients, 0 to 7 */
+#define SCM_STEPS          64u      /* the most steps of a sequence, and of a recording, whose failed ones count */
+#define SCM_POOL_BYTES     16384u   /* the most bytes of a pool */
+#define SCM_OBJECT_BYTES   663u     /* the most bytes of a legal object: a base with labels of 63 bytes and 255 functions */
+#define SCM_MESSAGE_BYTES  80u      /* enough for every message but D.6, which has its pool's bytes and one more */
+#define SCM_ANSWER_BYTES   8u       /* what a call writes to be sent: E.2, E.5, E.8 */
+#define SCM_FRAME_BYTES    9u       /* a frame of a tick: the slot, then the eight bytes of E.6 */
+#define SCM_FRAMES_BYTES   576u     /* what a tick fills: room for 64 frames */
+#define SCM_ANSWER_TICKS   15u      /* so many ticks after a command left, its first answer is still in time; the next tick aborts the playback */
+#define SCM_LAST_TICK      36000u   /* the tick, an hour, at which a recording is thrown away and a playback is aborted */
+
+/* ---- The numbers that calls give back
+
+   Where several apply: 1, 4, 3, 2, then the rest in the order that the call names them. Every number but SCM_OK leaves the master and all lent memory
+   as they were. While the master is inactive, every call that changes it but scm_on gives 2, unless 1, 4 or 3 comes first. */
 enum scm_number {
     SCM_OK = 0,                     /* done */
     SCM_TOO_SHORT = 1,              /* lent output too short */
     SCM_WRONG_STATE = 2,            /* not allowed in this state */
-    SCM_WRONG_SLOT = 3,             /* slot above 7, empty, or (attaching) taken, or NAME already attached */
-    SCM_WRONG_VALUE = 4,            /* message of wrong length, code unknown here, value not allowed, report of no known state, tick of more than
-                                       65,535 mm, scale not finite and above zero */
+    SCM_WRONG_SLOT = 3,             /* slot above 7, empty, or (attaching) taken, or NAME already attached; a reader: no such slot, step or command */
+    SCM_WRONG_VALUE = 4,            /* message of wrong length, code unknown for its side or call, value not allowed, report of no known state, tick
+                                       of more than 65,535 mm, scale not finite and above zero, object not legal */
     SCM_NOT_EXPECTED = 5,           /* message not expected now: send a NACK */
     SCM_POOL_REFUSED = 6,           /* pool refused, with the D.9 code and object number */
     SCM_NO_STEP = 7,                /* sequence has no step */
@@ -40,7 +89,7 @@ enum scm_number {
     SCM_NO_MATCH = 15               /* answer matches no sent step; ignored */
 };
 
-/* What a number says, for a log or a screen. */
+/* What a number says, for a log or a screen. Here and in the other texts each code has words of its own, and all that are no code share one text. */
 static inline const char *scm_number_text(uint8_t number)
 {
     switch (number) {
@@ -64,23 +113,23 @@ static inline const char *scm_number_text(uint8_t number)
     }
 }
 
-/* ---- The pool */
+/* ---- The pool: what a client hands over of itself, one base, its functions and their states; HOST.md has the three objects as tables of bytes */
 
-/* The codes of D.9. 08 is never given: a pool holds no strings. */
+/* The codes of D.9, by which a pool is judged. 08 is never given: a pool holds no strings. */
 enum scm_pool_code {
-    SCM_POOL_TAKEN = 0x00,
-    SCM_POOL_UNKNOWN_TYPE = 0x01,
-    SCM_POOL_NO_BASE = 0x02,
-    SCM_POOL_NO_FUNCTION = 0x03,
-    SCM_POOL_NO_STATE = 0x04,
-    SCM_POOL_NUMBER_TWICE = 0x05,
-    SCM_POOL_FUNCTION_TWICE = 0x06,
-    SCM_POOL_STATE_TWICE = 0x07,
-    SCM_POOL_VERSION_LENGTH = 0x09,
-    SCM_POOL_VERSION_BYTES = 0x0A,
-    SCM_POOL_CONFIGURATION_LENGTH = 0x0B,
-    SCM_POOL_WRONG_VERSION = 0x0C,
-    SCM_POOL_OTHER = 0xFF
+    SCM_POOL_TAKEN = 0x00,          /* no fault */
+    SCM_POOL_UNKNOWN_TYPE = 0x01,   /* object type is not 0, 1 or 2 */
+    SCM_POOL_NO_BASE = 0x02,        /* no base object; names object 0 */
+    SCM_POOL_NO_FUNCTION = 0x03,    /* a listed function is absent; names the listed number */
+    SCM_POOL_NO_STATE = 0x04,       /* a listed state is absent; names the listed number */
+    SCM_POOL_NUMBER_TWICE = 0x05,   /* object number seen before */
+    SCM_POOL_FUNCTION_TWICE = 0x06, /* two listed functions with one function ID */
+    SCM_POOL_STATE_TWICE = 0x07,    /* two states of one function with one state ID */
+    SCM_POOL_VERSION_LENGTH = 0x09, /* version label is not of 1 to 63 bytes */
+    SCM_POOL_VERSION_BYTES = 0x0A,  /* version label has a byte that is not allowed */
+    SCM_POOL_CONFIGURATION_LENGTH = 0x0B, /* configuration label is not of 1 to 63 bytes */
+    SCM_POOL_WRONG_VERSION = 0x0C,  /* version of the standard is not 2 */
+    SCM_POOL_OTHER = 0xFF           /* an object is cut, a field is out of its range, or the pool is too long */
 };
 
 /* What a code of D.9 says. */
@@ -104,63 +153,114 @@ static inline const char *scm_pool_code_text(uint8_t code)
     }
 }
 
-/* A code of D.9 and the number of the first faulty object. Success is code 0x00 and object 0xFFFF. */
+/* A pool's judgement. */
 typedef struct scm_verdict {
-    uint8_t code;
-    uint16_t object;
+    uint8_t code;                   /* enum scm_pool_code */
+    uint16_t object;                /* the first faulty object; 0xFFFF with SCM_POOL_TAKEN, and where no object is to be named */
 } scm_verdict;
 
-/* Judges any bytes at all as a client's pool; more than 16,384 bytes give 0xFF and 0xFFFF. Writes no memory. */
-scm_verdict scm_pool_check(const uint8_t *pool, size_t pool_len);
+/* Judges any bytes at all as a client's pool, by the rules by which scm_attach judges it, and keeps nothing. More than SCM_POOL_BYTES give 0xFF and
+   0xFFFF, none at all 0x02 and 0. Writes no memory. Afterwards: code and object are what a D.9 says. */
+SCM_MUST_USE scm_verdict scm_pool_check(const uint8_t *pool, size_t pool_len);
 
-/* What stands at a place of a pool. */
-#define SCM_OBJECT_BASE     0u
-#define SCM_OBJECT_FUNCTION 1u
-#define SCM_OBJECT_STATE    2u
-#define SCM_OBJECT_NONE     255u    /* past the end, or cut, or illegal: next is the place, all else is 0 */
+/* scm_object.kind: the object's type as it stands in byte 3 of the tables, or none. */
+enum scm_object_kind {
+    SCM_OBJECT_BASE = 0,            /* table A.1 */
+    SCM_OBJECT_FUNCTION = 1,        /* table A.2 */
+    SCM_OBJECT_STATE = 2,           /* table A.3 */
+    SCM_OBJECT_NONE = 255           /* past the end, or cut, or illegal: next is the place, all else is 0 */
+};
 
-/* An object by value. Fields that its kind does not have are 0, and so are the cells after a label and after the list. */
+/* scm_object.trigger: by what the mark of a step of this function is counted when it is recorded. */
+enum scm_trigger {
+    SCM_TRIGGER_TIME = 1,           /* in ticks */
+    SCM_TRIGGER_DISTANCE = 2,       /* in millimetres */
+    SCM_TRIGGER_EITHER = 255        /* the client does not care: counted in ticks */
+};
+
+/* scm_object.attribute: the style of a function's value. It says what a screen does; the master does not look at it, nor at minimum and maximum: a
+   client's value is recorded and replayed as it came, in all 32 bits, whatever they say. */
+enum scm_style {
+    SCM_STYLE_HIDDEN = 0,           /* not shown: minimum, maximum, offset, scale, decimals and unit are all one bits */
+    SCM_STYLE_SHOWN = 1,            /* shown: minimum and maximum are all one bits */
+    SCM_STYLE_CHANGED = 2           /* shown, and the operator may change it from minimum to maximum */
+};
+
+/* An object by value. scm_object_at leaves 0 in the fields that its kind does not have, and in the cells after a label and after the list. */
 typedef struct scm_object {
-    uint8_t  kind;                  /* SCM_OBJECT_... */
-    size_t   place;                 /* as it was passed */
-    size_t   next;                  /* the place after the object */
-    uint16_t number;                /* object number */
-    uint8_t  standard;              /* base: version of the standard, 0 to 2 */
+    uint8_t  kind;                  /* enum scm_object_kind */
+    size_t   place;                 /* scm_object_at: as it was passed */
+    size_t   next;                  /* scm_object_at: the place after the object */
+    uint16_t number;                /* object number: a base 0, another 1 to 65534 */
+    uint8_t  standard;              /* base: version of the standard, 0 to 2; the pool's check takes 2 alone */
     uint64_t master;                /* base: NAME of the working set master */
     uint64_t mask;                  /* base: NAME mask */
-    uint16_t name;                  /* number of the text object */
-    uint16_t picture;               /* number of the picture object */
+    uint16_t name;                  /* number of the text object, not 0xFFFF */
+    uint16_t picture;               /* number of the picture object, not 0xFFFF */
     uint8_t  function;              /* function: function ID */
-    uint8_t  trigger;               /* function: preferred trigger, 1, 2 or 255 */
-    uint8_t  attribute;             /* function: 0 not shown, 1 shown, 2 shown and changed */
+    uint8_t  trigger;               /* function: preferred trigger, enum scm_trigger */
+    uint8_t  attribute;             /* function: enum scm_style */
     uint32_t minimum;               /* function: least value */
     uint32_t maximum;               /* function: greatest value */
     uint32_t offset;                /* function: bits of an int32_t */
     uint32_t scale;                 /* function: bits of a float */
-    uint8_t  decimals;              /* function: decimals shown */
+    uint8_t  decimals;              /* function: decimals shown, 0 to 7 */
     uint16_t unit;                  /* function: number of the unit's text object */
     uint8_t  state;                 /* state: state ID, 0 to 63 */
     uint8_t  n;                     /* base: bytes of the version label, 1 to 63 */
     uint8_t  m;                     /* base: bytes of the configuration label, 1 to 63 */
-    uint8_t  count;                 /* numbers in the list: functions of a base, states of a function */
+    uint8_t  count;                 /* numbers in the list: of a base 1 to 255 functions, of a function 0 to 64 states */
     uint8_t  version[63];           /* base: version label */
     uint8_t  configuration[63];     /* base: configuration label */
     uint16_t list[255];             /* numbers of the objects listed */
 } scm_object;
 
-/* The object at a place of any bytes at all. The first object stands at place 0, each other one at the next place of the one before; a
-   walk ends where kind is SCM_OBJECT_NONE. */
-scm_object scm_object_at(const uint8_t *pool, size_t pool_len, size_t place);
+/* What writing an object gives by value. */
+typedef struct scm_placed {
+    uint8_t number;
+    size_t next;
+} scm_placed;
 
+/* What scm_object_write stands over. */
+SCM_MUST_USE scm_placed scm_write_object(scm_object object, size_t place, uint8_t *out, size_t out_len);
+
+/* Writes an object's bytes at a place of out. A pool is made by writing its objects one after the other, each at the next of the one before, from
+   place 0; the last next is the pool's length. Set the struct to 0 first: fields that the kind does not have are not looked at, nor are place and
+   next, but every cell after a label and after the list has to be 0, and so have all cells of what the kind lacks: the labels of a function, labels
+   and list of a state.
+
+     0  the bytes from place up to *next are the object's, the other bytes of out stay
+     1  no room: place + size is above out_len. The size goes by the fields as given: base 27 + n + m + 2 * count, function 30 + 2 * count, state 8,
+        else 0
+     4  the object is not legal: kind is not 0, 1 or 2; n or m is not 1 to 63; a field is out of its range (HOST.md has the table); a cell that has to
+        be 0 is not
+
+   *next: with 0 the place after the object, else place. Afterwards: it has judged this object alone; whether the pool holds together (every listed
+   object is there, no number stands twice, version 2, the label's characters) scm_pool_check says. */
+SCM_MUST_USE static inline uint8_t scm_object_write(const scm_object *object, size_t place, uint8_t *out, size_t out_len, size_t *next)
+{
+    scm_placed w = scm_write_object(*object, place, out, out_len);
+    if (next != NULL) {
+        *next = w.next;
+    }
+    return w.number;
+}
+
+/* The object at a place of any bytes at all, for a screen. The first object stands at place 0, each other one at the next of the one before; a walk
+   ends where kind is SCM_OBJECT_NONE, which gives no number: whether the pool is good, scm_pool_check says. Bytes of more than SCM_POOL_BYTES hold no
+   object. */
+SCM_MUST_USE scm_object scm_object_at(const uint8_t *pool, size_t pool_len, size_t place);
+
+/* What writing a pool again gives. */
 typedef struct scm_rewritten {
-    uint8_t  number;                /* 0 done, 1 lent output too short, 6 pool refused */
+    uint8_t  number;                /* 0 done, 1 out is shorter than the pool, 6 pool refused */
     uint8_t  code;                  /* with 6 the code of D.9, else 0 */
     uint16_t object;                /* with 6 the object it names, else 0 */
 } scm_rewritten;
 
-/* Takes an accepted pool apart, object by object, and writes it again: out begins with exactly the pool's bytes, and the bytes after them
-   stay. With any number but 0 no byte of out changes. pool and out do not overlap. */
-scm_rewritten scm_pool_rewrite(const uint8_t *pool, size_t pool_len, uint8_t *out, size_t out_len);
+/* Takes an accepted pool apart, object by object, and writes it again: out begins with exactly the pool's bytes, and the bytes after them stay. 1 is
+   looked at before the pool is judged. With any number but 0 no byte of out changes. pool and out do not overlap. */
+SCM_MUST_USE scm_rewritten scm_pool_rewrite(const uint8_t *pool, size_t pool_len, uint8_t *out, size_t out_len);
 
 /* A label: the first `length` bytes count; the library leaves 0 in the others. */
 typedef struct scm_label {
@@ -168,25 +268,30 @@ typedef struct scm_label {
     uint8_t bytes[63];
 } scm_label;
 
-/* What the master keeps of a pool: trigger[f] is the preferred trigger of function f (1 time, 2 distance, 255 either), 0 where the pool lists no
-   function f; bit s of states[f] says that function f has state s. */
+/* What the master keeps of a pool. */
 typedef struct scm_profile {
-    uint64_t master;
-    uint64_t mask;
-    scm_label version;
-    scm_label configuration;
-    uint8_t trigger[256];
-    uint64_t states[256];
+    uint64_t master;                /* NAME of the working set master */
+    uint64_t mask;                  /* NAME mask */
+    scm_label version;              /* version label */
+    scm_label configuration;        /* configuration label */
+    uint8_t trigger[256];           /* of function f its preferred trigger, enum scm_trigger; 0 where the base lists no function f */
+    uint64_t states[256];           /* bit s: function f has state s */
 } scm_profile;
 
-/* What is kept of any bytes at all; of a pool that the check refuses, nothing: all is 0. Writes no lent memory. */
-scm_profile scm_profile_of(const uint8_t *pool, size_t pool_len);
+/* What the master would keep of any bytes at all; of a pool that the check refuses, nothing: all is 0. Writes no memory. */
+SCM_MUST_USE scm_profile scm_profile_of(const uint8_t *pool, size_t pool_len);
 
-/* ---- Messages C.2 to C.5, D.2 to D.15, E.2 to E.8 */
+/* ---- Messages C.2 to C.5, D.2 to D.15, E.2 to E.8
 
-/* The side that sent a message. */
-#define SCM_CLIENT 0u
-#define SCM_MASTER 1u
+   C and D messages are read and written; which answer to give is the host's choice. Of the E messages, the calls on a master read E.3, E.4 and E.7
+   and write E.2, E.5, E.6 and E.8 themselves: a host hands over the bytes as they came and sends the bytes as they were written. It reads what was
+   written to see what it says. */
+
+/* The side that sent a message: the message's code means another message on the other side. */
+enum scm_side {
+    SCM_CLIENT = 0,                 /* a client sent it */
+    SCM_MASTER = 1                  /* the master sent it */
+};
 
 /* scm_message.kind, and the fields that each message has. A reading gives 0 in every field that its message lacks; writing does not
  * look at them. "->" is a message to the master, sent by a client; "<-" one from the master. */
@@ -204,216 +309,439 @@ enum scm_kind {
                                                 Written by scm_transfer_write; scm_message_write gives 4 */
     SCM_TRANSFER_RESPONSE = 10,     /* D.7  <-  code: 0 none, 1 error while transferring, 255 other */
     SCM_ACTIVATION_COMMAND = 11,    /* D.8  -> */
-    SCM_POOL_ACKNOWLEDGEMENT = 12,  /* D.9  <-  code: 0 to 12, 255; object: the first at fault, 65535 with code 0 */
+    SCM_POOL_ACKNOWLEDGEMENT = 12,  /* D.9  <-  code: 0 to 12, 255, enum scm_pool_code; object: the first at fault, 65535 with code 0 */
     SCM_DELETE_COMMAND = 13,        /* D.10 ->  code: 0 volatile memory, 1 non-volatile */
     SCM_DELETE_RESPONSE = 14,       /* D.11 <-  code: 0 none, 1 no such pool, 255 other */
     SCM_STORE_COMMAND = 15,         /* D.12 -> */
     SCM_STORE_RESPONSE = 16,        /* D.13 <-  code: 0 none, 1 not parsed yet, 2 no room, 255 other */
     SCM_LOAD_COMMAND = 17,          /* D.14 -> */
     SCM_LOAD_RESPONSE = 18,         /* D.15 <-  code: 0 none, 1 not found, 2 damaged, 3 no room, 255 other */
-    SCM_STATE_COMMAND = 19,         /* E.2  <-  code: 0 disable, 1 enable; reason: 1 operator, 2 not in the sequence, 3 in it, 255 none */
-    SCM_CLIENT_ABORT = 20,          /* E.3  ->  code: 1 status timed out, 2 operator, 3 fault while executing, 255 other */
+    SCM_STATE_COMMAND = 19,         /* E.2  <-  code: enum scm_commanded; reason: enum scm_reason */
+    SCM_CLIENT_ABORT = 20,          /* E.3  ->  code: enum scm_abort_error */
     SCM_INDICATION = 21,            /* E.4  ->  step: function, state, status, tan, value */
-    SCM_INDICATION_RESPONSE = 22,   /* E.5  <-  step: function, state, status, error (0 to 6, 255), tan */
+    SCM_INDICATION_RESPONSE = 22,   /* E.5  <-  step: function, state, status, error: enum scm_indication_error, tan */
     SCM_COMMAND = 23,               /* E.6  <-  step: function, state, tan, value */
-    SCM_ANSWER = 24,                /* E.7  ->  step: function, state, status, error (0 to 3, 255), tan */
+    SCM_ANSWER = 24,                /* E.7  ->  step: function, state, status, error: enum scm_answer_error, tan */
     SCM_ANSWER_ACKNOWLEDGEMENT = 25 /* E.8  <-  step: function, state, status, tan */
 };
 
-/* scm_message_step.status: bits 7 and 8 of byte 3. Any other number gives 4 where the message has a status. */
-enum scm_status { SCM_AT_ONCE = 0, SCM_STARTED = 1, SCM_DONE = 2, SCM_FAILED = 3 };
+/* scm_message_step.status, bits 7 and 8 of byte 3; any other number gives 4 where the message has a status. Also scm_taken_view.status, where
+   SCM_STARTED is a step that is open: begun and not yet done. */
+enum scm_status {
+    SCM_AT_ONCE = 0,                /* 00: started and done at once; a one-shot step */
+    SCM_STARTED = 1,                /* 01: started */
+    SCM_DONE = 2,                   /* 10: done */
+    SCM_FAILED = 3                  /* 11: failed; in playback also: the operator has interfered at the client */
+};
 
-/* C.3: width, height and characters are 32 at least, version 0 to 2; the last four are the font's. */
+/* What a status says. */
+static inline const char *scm_status_text(uint8_t status)
+{
+    switch (status) {
+    case SCM_AT_ONCE: return "started and done at once";
+    case SCM_STARTED: return "started";
+    case SCM_DONE: return "done";
+    case SCM_FAILED: return "failed";
+    default: return "no execution status";
+    }
+}
+
+/* E.2, code: the state that the client is told to take. */
+enum scm_commanded {
+    SCM_DISABLE = 0,                /* disabled */
+    SCM_ENABLE = 1                  /* enabled */
+};
+
+/* E.2, reason. The master's own E.2 (scm_enable, scm_disable) always says SCM_REASON_OPERATOR. */
+enum scm_reason {
+    SCM_REASON_OPERATOR = 1,        /* the operator commanded it */
+    SCM_REASON_NOT_IN_SEQUENCE = 2, /* the client is no part of the selected sequence */
+    SCM_REASON_IN_SEQUENCE = 3,     /* the client is part of the selected sequence */
+    SCM_REASON_NONE = 255           /* no particular reason */
+};
+
+/* What a reason of E.2 says. */
+static inline const char *scm_reason_text(uint8_t reason)
+{
+    switch (reason) {
+    case SCM_REASON_OPERATOR: return "the operator commanded it";
+    case SCM_REASON_NOT_IN_SEQUENCE: return "the client is no part of the selected sequence";
+    case SCM_REASON_IN_SEQUENCE: return "the client is part of the selected sequence";
+    case SCM_REASON_NONE: return "no particular reason";
+    default: return "no reason of E.2";
+    }
+}
+
+/* E.3, code: why a client wants the playback to end. */
+enum scm_abort_error {
+    SCM_ABORT_TIMED_OUT = 1,        /* the status message timed out */
+    SCM_ABORT_OPERATOR = 2,         /* the operator has interfered */
+    SCM_ABORT_FAULT = 3,            /* a fault while a function was executed */
+    SCM_ABORT_OTHER = 255           /* other error */
+};
+
+/* What a code of E.3 says. */
+static inline const char *scm_abort_text(uint8_t code)
+{
+    switch (code) {
+    case SCM_ABORT_TIMED_OUT: return "the status message timed out";
+    case SCM_ABORT_OPERATOR: return "the operator has interfered";
+    case SCM_ABORT_FAULT: return "a fault while a function was executed";
+    case SCM_ABORT_OTHER: return "other error";
+    default: return "no error of E.3";
+    }
+}
+
+/* E.5, error: what the master did with an indication. Anything but 0 says no. */
+enum scm_indication_error {
+    SCM_INDICATION_TAKEN = 0,       /* no error */
+    SCM_INDICATION_NO_FUNCTION = 1, /* function ID is not defined: the client's pool does not list it */
+    SCM_INDICATION_NO_STATE = 2,    /* state ID is not defined: this function has no such state */
+    SCM_INDICATION_WRONG_STATUS = 3, /* status does not match: done or failed without a start, or not what this TAN began with */
+    SCM_INDICATION_FULL = 4,        /* no memory: 64 steps are held */
+    SCM_INDICATION_GOES_ON = 5,     /* the playback goes on, and the function gets no more commands: legal in a message, never given by this master */
+    SCM_INDICATION_STOPPED = 6,     /* the operator has interfered: the playback is aborted */
+    SCM_INDICATION_OTHER = 255      /* other: the step failed, a new step in record complete, or in playback a function that is no step */
+};
+
+/* What an error of E.5 says. */
+static inline const char *scm_indication_error_text(uint8_t error)
+{
+    switch (error) {
+    case SCM_INDICATION_TAKEN: return "no error";
+    case SCM_INDICATION_NO_FUNCTION: return "function ID is not defined";
+    case SCM_INDICATION_NO_STATE: return "state ID is not defined";
+    case SCM_INDICATION_WRONG_STATUS: return "execution status does not match";
+    case SCM_INDICATION_FULL: return "the master's memory is full";
+    case SCM_INDICATION_GOES_ON: return "the playback goes on without further commands to this function";
+    case SCM_INDICATION_STOPPED: return "the operator has interfered: the playback is stopped";
+    case SCM_INDICATION_OTHER: return "other error";
+    default: return "no error of E.5";
+    }
+}
+
+/* E.7, error: what went wrong at a client. Anything but 0 aborts a playback, unless the step was done already. */
+enum scm_answer_error {
+    SCM_ANSWER_NO_ERROR = 0,        /* no error */
+    SCM_ANSWER_FAULT = 1,           /* the function is at fault */
+    SCM_ANSWER_OPERATOR = 2,        /* the operator has interfered */
+    SCM_ANSWER_CONDITIONS = 3,      /* the client's conditions do not allow it */
+    SCM_ANSWER_OTHER = 255          /* other error */
+};
+
+/* What an error of E.7 says. */
+static inline const char *scm_answer_error_text(uint8_t error)
+{
+    switch (error) {
+    case SCM_ANSWER_NO_ERROR: return "no error";
+    case SCM_ANSWER_FAULT: return "the function is at fault";
+    case SCM_ANSWER_OPERATOR: return "the operator has interfered";
+    case SCM_ANSWER_CONDITIONS: return "the client's conditions do not allow it";
+    case SCM_ANSWER_OTHER: return "other error";
+    default: return "no error of E.7";
+    }
+}
+
+/* C.3: what the master can show. */
 typedef struct scm_capability {
-    uint8_t version;
-    uint8_t width;
-    uint8_t height;
-    uint16_t characters;
-    uint8_t colour;
-    uint8_t size;
-    uint8_t font;
-    uint8_t style;
+    uint8_t version;                /* of the standard, 0 to 2 */
+    uint8_t width;                  /* pixels, 32 at least */
+    uint8_t height;                 /* pixels, 32 at least */
+    uint16_t characters;            /* 32 at least */
+    uint8_t colour;                 /* of the font: any byte */
+    uint8_t size;                   /* of the font: any byte */
+    uint8_t font;                   /* any byte */
+    uint8_t style;                  /* of the font: any byte */
 } scm_capability;
 
-/* E.4 to E.8: the state is at most 63. */
+/* E.4 to E.8: what they say of a step. */
 typedef struct scm_message_step {
-    uint8_t function;
-    uint8_t state;
-    uint8_t status;
-    uint8_t error;
-    uint8_t tan;
-    uint32_t value;
+    uint8_t function;               /* function ID */
+    uint8_t state;                  /* state ID, at most 63 */
+    uint8_t status;                 /* enum scm_status */
+    uint8_t error;                  /* E.5: enum scm_indication_error; E.7: enum scm_answer_error */
+    uint8_t tan;                    /* the number that ties an answer to what it answers */
+    uint32_t value;                 /* the function's value, all 32 bits; E.4 carries one at every status */
 } scm_message_step;
 
+/* A message by value. enum scm_kind says which fields a kind has. */
 typedef struct scm_message {
-    uint8_t kind;
-    uint8_t code;
-    uint8_t reason;
-    uint16_t object;
-    uint32_t memory;
-    scm_capability capability;
-    scm_message_step step;
-    scm_label label;
+    uint8_t kind;                   /* enum scm_kind */
+    uint8_t code;                   /* what the kind says: an error, a version, a command */
+    uint8_t reason;                 /* E.2: enum scm_reason */
+    uint16_t object;                /* D.9: the first object at fault */
+    uint32_t memory;                /* C.4: bytes */
+    scm_capability capability;      /* C.3 */
+    scm_message_step step;          /* E.4 to E.8 */
+    scm_label label;                /* D.3, D.5 */
 } scm_message;
 
+/* What reading a message gives by value. */
 typedef struct scm_message_reading {
     uint8_t number;
     scm_message message;
 } scm_message_reading;
 
+/* What writing a message gives by value. */
 typedef struct scm_written {
     uint8_t number;
     size_t length;
 } scm_written;
 
-scm_message_reading scm_read(uint32_t side, const uint8_t *bytes, size_t len);
-scm_written scm_write(scm_message message, uint8_t *out, size_t out_len);
-scm_written scm_write_transfer(const uint8_t *pool, size_t pool_len, uint8_t *out, size_t out_len);
+/* What scm_message_read, scm_message_write and scm_transfer_write stand over. */
+SCM_MUST_USE scm_message_reading scm_read(uint32_t side, const uint8_t *bytes, size_t len);
+SCM_MUST_USE scm_written scm_write(scm_message message, uint8_t *out, size_t out_len);
+SCM_MUST_USE scm_written scm_write_transfer(const uint8_t *pool, size_t pool_len, uint8_t *out, size_t out_len);
 
-/* What `len` bytes that `side` sent say: 0, or 4 and a message of kind SCM_NOTHING with 0 in every field. */
-static inline uint8_t scm_message_read(uint32_t side, const uint8_t *bytes, size_t len, scm_message *message)
+/* What `len` bytes that `side` sent say. Reserved bytes and bits are not looked at.
+
+     0  *message is what they say
+     4  side is neither SCM_CLIENT nor SCM_MASTER; a code that this side does not send; a wrong length; a reserved code or a value that its field does
+        not allow
+
+   *message: with 4 of kind SCM_NOTHING, with 0 in every field. */
+SCM_MUST_USE static inline uint8_t scm_message_read(uint32_t side, const uint8_t *bytes, size_t len, scm_message *message)
 {
     scm_message_reading r = scm_read(side, bytes, len);
-    *message = r.message;
+    if (message != NULL) {
+        *message = r.message;
+    }
     return r.number;
 }
 
-/* Writes a message: 0 and its length, or 1 (out too short) or 4 (a field's value is not allowed), length 0, and out as it was.
- * 80 bytes of out are enough for every message but D.6. Bytes of out past the length stay. */
-static inline uint8_t scm_message_write(const scm_message *message, uint8_t *out, size_t out_len, size_t *length)
+/* Writes a message to the front of out. Reserved bytes are FF. It looks at the fields that the kind has, and of a label at the first `length` bytes.
+
+     0  the first *length bytes of out are the message, the others stay
+     1  out_len is below the message's length: C.3 has 10 bytes, D.3 and D.5 have 3 + label.length and at least 8, every other message 8. A kind that
+        is not written here asks for 8 too, SCM_TRANSFER for 1
+     4  a kind that is not written here (SCM_NOTHING, SCM_TRANSFER, above 25), or a value that its field does not allow
+
+   *length: with 1 and 4 it is 0. SCM_MESSAGE_BYTES are enough for every message. */
+SCM_MUST_USE static inline uint8_t scm_message_write(const scm_message *message, uint8_t *out, size_t out_len, size_t *length)
 {
     scm_written w = scm_write(*message, out, out_len);
-    *length = w.length;
+    if (length != NULL) {
+        *length = w.length;
+    }
     return w.number;
 }
 
-/* Writes a transfer, D.6: its code and the pool, of 8 to 16,384 bytes. The numbers are those of scm_message_write. */
-static inline uint8_t scm_transfer_write(const uint8_t *pool, size_t pool_len, uint8_t *out, size_t out_len, size_t *length)
+/* Writes a transfer, D.6: its code and the pool, whose objects are not judged.
+
+     0  the first *length bytes of out, pool_len + 1, are the message, the others stay
+     1  out_len is below pool_len + 1, or below 16,385 where the pool has more than SCM_POOL_BYTES
+     4  the pool has fewer than 8 bytes or more than SCM_POOL_BYTES
+
+   *length: with 1 and 4 it is 0. */
+SCM_MUST_USE static inline uint8_t scm_transfer_write(const uint8_t *pool, size_t pool_len, uint8_t *out, size_t out_len, size_t *length)
 {
     scm_written w = scm_write_transfer(pool, pool_len, out, out_len);
-    *length = w.length;
+    if (length != NULL) {
+        *length = w.length;
+    }
     return w.number;
 }
 
-/* ---- The shown value */
+/* ---- The shown value: keep the value, not what is shown; no call takes a shown value back */
 
-/* The shown value, (value + offset) * scale: the sum exact, the product rounded once to a double, and exact where the sum is
-   below 2^29 in magnitude. Number 0, or 4 and value 0 where the scale is not finite and above zero. */
+/* What the calls for the shown value give by value. */
 typedef struct scm_shown_value {
-    uint8_t number;
-    double value;
+    uint8_t number;                 /* 0, or 4: the scale is not finite and above zero */
+    double value;                   /* (value + offset) * scale; with 4 it is 0 */
 } scm_shown_value;
 
-scm_shown_value scm_shown_of(uint32_t value, int32_t offset, float scale);
-scm_shown_value scm_shown_bits(uint32_t value, int32_t offset, uint32_t scale);   /* the scale's 32 bits, as they stand in a pool */
+/* What scm_shown stands over. */
+SCM_MUST_USE scm_shown_value scm_shown_of(uint32_t value, int32_t offset, float scale);
 
-static inline uint8_t scm_shown(uint32_t value, int32_t offset, float scale, double *shown)
+/* As scm_shown, from the scale's 32 bits, as they stand in a pool and in scm_object.scale. The offset there is the bits of an int32_t: cast it. */
+SCM_MUST_USE scm_shown_value scm_shown_bits(uint32_t value, int32_t offset, uint32_t scale);
+
+/* The number for the screen, (value + offset) * scale: the sum exact, the product rounded once to a double, and exact where the sum is below 2^29 in
+   magnitude.
+
+     0  *shown is the shown value
+     4  the scale is not finite and above zero, as that of a function of SCM_STYLE_HIDDEN; *shown is 0 */
+SCM_MUST_USE static inline uint8_t scm_shown(uint32_t value, int32_t offset, float scale, double *shown)
 {
     scm_shown_value r = scm_shown_of(value, offset, scale);
-    *shown = r.value;
+    if (shown != NULL) {
+        *shown = r.value;
+    }
     return r.number;
 }
 
 /* ---- The master: clients, states, recording and playback
 
-   The host owns the master's memory, one struct for each master, and hands it to each call. A call gives a number of document 01; with every number but 0 the
-   master and every lent byte are as they were. Set it up with scm_init, and change it by the calls only. The calls from scm_on to scm_answer are events;
-   scm_state, scm_slot, scm_step_count, scm_step and scm_client read, in every state, and change nothing. */
+   The host owns the master's memory, one scm_master for each master, made by scm_init. The calls from scm_on to scm_answer are events and change it;
+   the readers after them answer in every state and change nothing.
+
+     inactive --on--> ready --record--> record --stop--> record complete (while a step is open) --> ready
+              <-off--       --start---> playback --all steps done--> ready
+                                                 --abort--> abort --every enabled client reports abort--> ready
+
+   slot       a place for a client, 0 to 7: empty, or taken by a client that was attached.
+   wanted     the operator wants the client: since scm_enable, until scm_disable.
+   enabled    wanted, and its last report is another than disabled. A client's last report is disabled when it is attached, so scm_enable alone
+              enables nobody: the client has to report something else.
+   recording  what is taken from scm_record on. It has its own steps; the sequence stays as it was until the recording ends and has kept a step.
+   sequence   the steps that the last recording that kept any has kept, with the NAMEs and labels of their clients. It is what scm_start replays.
+   step       a function of a client that took a state, with its 32-bit value and its mark.
+   tick       an accepted scm_tick, 100 ms. A recording numbers its ticks from 1, from the accepted scm_record on; a playback from the accepted
+              scm_start on.
+   mark       what a recording had counted when the step began: ticks, or millimetres where the function's trigger is SCM_TRIGGER_DISTANCE; 0 before
+              tick 1.
+   due        a step is due at tick t of a playback where its mark is t or less; with a mark in millimetres, where so many or more have been driven
+              since the accepted scm_start, those of tick t among them. Marks of 0 and 1 ticks are due at tick 1 alike.
+   TAN        a byte that ties an answer to what it answers. A client gives each step of a recording one of its own; the master counts those of its
+              commands up. */
 
 /* scm_state. The numbering is the library's own. */
-enum scm_states { SCM_INACTIVE = 0, SCM_READY = 1, SCM_RECORD = 2, SCM_RECORD_COMPLETE = 3, SCM_PLAYBACK = 4, SCM_ABORT = 5 };
+enum scm_states {
+    SCM_INACTIVE = 0,               /* switched off: as it is made, and after scm_off */
+    SCM_READY = 1,                  /* clients are attached, enabled and disabled; a recording or a playback may begin */
+    SCM_RECORD = 2,                 /* ticks are counted, E.4s begin and end steps */
+    SCM_RECORD_COMPLETE = 3,        /* stopped, and a step is still open: E.4s end steps and begin none, ticks are still counted */
+    SCM_PLAYBACK = 4,               /* ticks send the steps of the sequence, E.7s answer them */
+    SCM_ABORT = 5                   /* a playback was broken off; the clients have to report abort */
+};
 
-/* What a client reports, decoded from its status message as docs/HOST.md says. The numbering is the library's own. */
-enum scm_reports { SCM_REPORT_DISABLED = 0, SCM_REPORT_READY = 1, SCM_REPORT_RECORD = 2, SCM_REPORT_PLAYBACK = 4, SCM_REPORT_ABORT = 5 };
+/* What a state is called. */
+static inline const char *scm_state_text(uint8_t state)
+{
+    switch (state) {
+    case SCM_INACTIVE: return "inactive";
+    case SCM_READY: return "ready";
+    case SCM_RECORD: return "record";
+    case SCM_RECORD_COMPLETE: return "record complete";
+    case SCM_PLAYBACK: return "playback";
+    case SCM_ABORT: return "abort";
+    default: return "no state of a master";
+    }
+}
 
-/* The least lengths of lent output: an answer (E.2, E.5, E.8), and the frames of a tick, nine bytes each: the slot, then E.6. */
-#define SCM_ANSWER_BYTES 8u
-#define SCM_FRAME_BYTES  9u
-#define SCM_FRAMES_BYTES 576u
+/* What a client reports, decoded from its status message as HOST.md says. The numbering is the library's own. */
+enum scm_reports {
+    SCM_REPORT_DISABLED = 0,        /* disabled or starting up; every client's last report when it is attached */
+    SCM_REPORT_READY = 1,
+    SCM_REPORT_RECORD = 2,          /* also of a client that still records while the master is in record complete */
+    SCM_REPORT_PLAYBACK = 4,
+    SCM_REPORT_ABORT = 5
+};
 
-/* A client's slot: taken and wanted are 0 or 1. An empty slot is all 0. */
+/* What a report is called. */
+static inline const char *scm_report_text(uint8_t report)
+{
+    switch (report) {
+    case SCM_REPORT_DISABLED: return "disabled";
+    case SCM_REPORT_READY: return "ready";
+    case SCM_REPORT_RECORD: return "record";
+    case SCM_REPORT_PLAYBACK: return "playback";
+    case SCM_REPORT_ABORT: return "abort";
+    default: return "no report of a client";
+    }
+}
+
+/* scm_step_view.distance: what a step's mark counts. */
+enum scm_mark {
+    SCM_MARK_TICKS = 0,             /* ticks: the function's trigger was SCM_TRIGGER_TIME or SCM_TRIGGER_EITHER */
+    SCM_MARK_MILLIMETRES = 1        /* millimetres: it was SCM_TRIGGER_DISTANCE */
+};
+
+/* scm_sent_view.answer: what a client has answered to a command. */
+enum scm_answered {
+    SCM_UNANSWERED = 0,             /* nothing yet: tick left + 16 aborts */
+    SCM_ANSWERED_STARTED = 1,       /* started: no limit but tick 36,000 */
+    SCM_ANSWERED_DONE = 2           /* done */
+};
+
+/* The parts of a master. A host declares an scm_master and reads it by the readers; the fields are here because the struct crosses by value. */
+
+/* A client's slot. An empty slot is all 0. */
 typedef struct scm_slot_state {
-    uint8_t taken;
-    uint8_t wanted;
-    uint8_t report;
-    uint64_t name;
-    scm_profile profile;
+    uint8_t taken;                  /* 0 or 1 */
+    uint8_t wanted;                 /* 0 or 1 */
+    uint8_t report;                 /* the last report, enum scm_reports */
+    uint64_t name;                  /* the NAME that it was attached with */
+    scm_profile profile;            /* what is kept of its pool */
 } scm_slot_state;
 
-/* What a sequence keeps of a client; used is 0 or 1. */
+/* What a sequence keeps of a client, as it was when its first step was stored. */
 typedef struct scm_client_record {
-    uint8_t used;
-    uint64_t name;
-    uint64_t master;
+    uint8_t used;                   /* 1 where the sequence has a step of this slot, else 0 and all else 0 */
+    uint64_t name;                  /* the NAME that it was attached with */
+    uint64_t master;                /* the master NAME of its pool */
     scm_label version;
     scm_label configuration;
 } scm_client_record;
 
-/* A step: distance is 1 where the mark is in millimetres, else it is in ticks. value is what the client sent, all 32 bits. */
+/* A step. */
 typedef struct scm_sequence_step {
-    uint8_t slot;
-    uint8_t function;
-    uint8_t state;
-    uint8_t distance;
-    uint32_t value;
-    uint32_t mark;
+    uint8_t slot;                   /* of the client */
+    uint8_t function;               /* function ID */
+    uint8_t state;                  /* state ID */
+    uint8_t distance;               /* enum scm_mark: what the mark counts */
+    uint32_t value;                 /* what the client sent, all 32 bits, whatever minimum and maximum say */
+    uint32_t mark;                  /* ticks or millimetres since the recording began, as its start came; 0 before the first tick */
 } scm_sequence_step;
 
-/* A step while it is recorded; status is 0 one-shot, 1 open, 2 done, 3 failed. */
+/* A step while it is recorded. Its value is 0 while it is open, and stays 0 where it failed. */
 typedef struct scm_taken_step {
     scm_sequence_step step;
-    uint8_t tan;
-    uint8_t status;
+    uint8_t tan;                    /* the client's */
+    uint8_t status;                 /* enum scm_status: SCM_AT_ONCE and SCM_DONE will be kept, SCM_STARTED is open, SCM_FAILED will be dropped */
 } scm_taken_step;
 
-/* A command that has left; answer is 0 none, 1 started, 2 done; left is the tick at which it first left. */
+/* A command that has left. */
 typedef struct scm_sent_step {
-    uint8_t tan;
-    uint8_t answer;
-    uint32_t left;
+    uint8_t tan;                    /* the master's */
+    uint8_t answer;                 /* enum scm_answered */
+    uint32_t left;                  /* the tick of the playback at which it first left */
 } scm_sent_step;
 
-/* Used cells come first, clients stand by slot, unused cells are 0. */
+/* A sequence. Used cells come first, clients stand by slot, unused cells are 0. */
 typedef struct scm_sequence {
-    size_t count;
-    scm_sequence_step steps[64];
-    scm_client_record clients[8];
+    size_t count;                   /* steps */
+    scm_sequence_step steps[64];    /* in order of start */
+    scm_client_record clients[8];   /* by slot */
 } scm_sequence;
 
+/* A recording; all 0 outside record and record complete. */
 typedef struct scm_recording {
-    uint32_t ticks;
-    uint32_t distance;
-    size_t count;
-    scm_taken_step steps[64];
-    scm_client_record clients[8];
+    uint32_t ticks;                 /* counted so far */
+    uint32_t distance;              /* millimetres driven so far */
+    size_t count;                   /* steps held, failed ones too */
+    scm_taken_step steps[64];       /* in order of start */
+    scm_client_record clients[8];   /* by slot */
 } scm_recording;
 
+/* A playback; all 0 outside playback. */
 typedef struct scm_playback {
-    uint32_t ticks;
-    uint32_t distance;
-    size_t sent;
-    scm_sent_step commands[64];
+    uint32_t ticks;                 /* counted so far */
+    uint32_t distance;              /* millimetres driven so far */
+    size_t sent;                    /* steps that have left */
+    scm_sent_step commands[64];     /* that of step i of the sequence is command i */
 } scm_playback;
 
+/* A master: plain data without pointers, 24,496 bytes. It may be copied, and kept in a file for the same version of the library. */
 typedef struct scm_master {
-    uint8_t state;
-    uint8_t tan;
+    uint8_t state;                  /* enum scm_states */
+    uint8_t tan;                    /* that of the last new command */
     scm_slot_state slots[8];
     scm_sequence sequence;
     scm_recording recording;
     scm_playback playback;
 } scm_master;
 
-/* What a call by value gives back. code and object belong to number 6, count to a tick; all else is 0. */
+/* What an event gives by value. code and object belong to number 6, count to a tick; else they are 0. */
 typedef struct scm_outcome {
-    uint8_t number;
+    uint8_t number;                 /* enum scm_number */
     uint8_t code;
     uint16_t object;
     uint32_t count;
-    scm_master master;
+    scm_master master;              /* the master after it; with any number but 0 as it was */
 } scm_outcome;
 
-/* What the readers give by value: number is 0, or 3 where there is no such slot or step, and then all else is 0. */
+/* What the readers give by value: number is 0, or 3 where there is no such slot, step or command, and then all else is 0. */
 typedef struct scm_slot_result {
     uint8_t number;
     uint8_t taken;
@@ -422,239 +750,536 @@ typedef struct scm_slot_result {
     uint64_t name;
 } scm_slot_result;
 
+/* scm_step by value. */
 typedef struct scm_step_result {
     uint8_t number;
     scm_sequence_step step;
 } scm_step_result;
 
+/* scm_client by value. */
 typedef struct scm_client_result {
     uint8_t number;
     scm_client_record client;
 } scm_client_result;
 
-/* The same for a host, one level deep. */
+/* scm_taken by value. */
+typedef struct scm_taken_result {
+    uint8_t number;
+    scm_taken_step taken;
+} scm_taken_result;
+
+/* scm_sent by value. */
+typedef struct scm_sent_result {
+    uint8_t number;
+    scm_sent_step sent;
+} scm_sent_result;
+
+/* scm_verify by value: number is 0 or 7 to 12. */
+typedef struct scm_check_result {
+    uint8_t number;
+    size_t slot;
+    size_t step;
+} scm_check_result;
+
+/* scm_progress gives this by value to a host too. */
+typedef struct scm_progress_view {
+    uint32_t ticks;                 /* accepted ticks since the recording or the playback began */
+    uint32_t distance;              /* millimetres driven in them */
+    size_t count;                   /* steps taken, failed ones too, or commands that have left; at most SCM_STEPS */
+} scm_progress_view;
+
+/* What the wrappers below stand over. */
+SCM_MUST_USE scm_master scm_master_new(void);
+SCM_MUST_USE scm_outcome scm_master_on(scm_master master);
+SCM_MUST_USE scm_outcome scm_master_off(scm_master master);
+SCM_MUST_USE scm_outcome scm_master_attach(scm_master master, size_t slot, uint64_t name, const uint8_t *pool, size_t pool_len);
+SCM_MUST_USE scm_outcome scm_master_enable(scm_master master, size_t slot, uint8_t *out, size_t out_len);
+SCM_MUST_USE scm_outcome scm_master_disable(scm_master master, size_t slot, uint8_t *out, size_t out_len);
+SCM_MUST_USE scm_outcome scm_master_report(scm_master master, size_t slot, uint32_t report);
+SCM_MUST_USE scm_outcome scm_master_lost(scm_master master, size_t slot);
+SCM_MUST_USE scm_outcome scm_master_record(scm_master master);
+SCM_MUST_USE scm_outcome scm_master_stop(scm_master master);
+SCM_MUST_USE scm_outcome scm_master_cancel(scm_master master);
+SCM_MUST_USE scm_outcome scm_master_indication(scm_master master, size_t slot, const uint8_t *msg, size_t msg_len, uint8_t *out, size_t out_len);
+SCM_MUST_USE scm_outcome scm_master_client_abort(scm_master master, size_t slot, const uint8_t *msg, size_t msg_len);
+SCM_MUST_USE scm_outcome scm_master_start(scm_master master);
+SCM_MUST_USE scm_outcome scm_master_abort(scm_master master);
+SCM_MUST_USE scm_outcome scm_master_tick(scm_master master, uint32_t mm, uint8_t *frames, size_t frames_len);
+SCM_MUST_USE scm_outcome scm_master_answer(scm_master master, size_t slot, const uint8_t *msg, size_t msg_len, uint8_t *out, size_t out_len);
+SCM_MUST_USE uint8_t scm_master_state(uint8_t state);
+SCM_MUST_USE scm_slot_result scm_master_slot(scm_master master, size_t slot);
+SCM_MUST_USE size_t scm_master_step_count(scm_sequence sequence);
+SCM_MUST_USE scm_step_result scm_master_step(scm_sequence sequence, size_t i);
+SCM_MUST_USE scm_client_result scm_master_client(scm_sequence sequence, size_t slot);
+SCM_MUST_USE scm_progress_view scm_master_progress(uint8_t state, scm_recording recording, scm_playback playback);
+SCM_MUST_USE scm_taken_result scm_master_taken(scm_recording recording, size_t i);
+SCM_MUST_USE scm_sent_result scm_master_sent(scm_playback playback, size_t i);
+SCM_MUST_USE scm_check_result scm_master_verify(scm_master master);
+
+/* Internal to the wrappers: the master goes on to what the call gave. */
+SCM_MUST_USE static inline uint8_t scm_moved_on(scm_master *m, const scm_outcome *o)
+{
+    *m = o->master;
+    return o->number;
+}
+
+/* ---- Events. Each comment gives the states in which the call may be accepted, and its numbers in the order in which they are looked at. */
+
+/* Makes a master: inactive, eight empty slots, no sequence, TAN 0. Once, before all other calls; whatever stood in *m is gone. */
+static inline void scm_init(scm_master *m)
+{
+    *m = scm_master_new();
+}
+
+/* The operator switches on: inactive to ready. Clients, sequence and TAN are as they were at scm_off.
+
+     0  the state is ready
+     2  not inactive */
+SCM_MUST_USE static inline uint8_t scm_on(scm_master *m)
+{
+    scm_outcome o = scm_master_on(*m);
+    return scm_moved_on(m, &o);
+}
+
+/* The operator switches off: ready to inactive. Nothing else changes: clients, their last reports and the sequence stay.
+
+     0   the state is inactive
+     2   not ready: end a recording or a playback first
+     13  an attached client, wanted or not, last reported something else than disabled
+
+   What to do with 13: scm_disable each client that scm_slot shows with another report, send its E.2, and try again when all have reported
+   disabled. */
+SCM_MUST_USE static inline uint8_t scm_off(scm_master *m)
+{
+    scm_outcome o = scm_master_off(*m);
+    return scm_moved_on(m, &o);
+}
+
+/* A client and its pool (D.6, D.8) fill an empty slot: not wanted, last report disabled. In ready. The slot matters: a sequence goes by slots, so a
+   client that is to replay what it recorded is attached in the slot in which it recorded it. The pool's bytes stay with the host, who needs them for
+   the screen alone.
+
+     0  attached. Send D.9 with code 0x00 and object 0xFFFF
+     3  slot above 7 or taken, or a client of this NAME is attached already, in whatever slot
+     2  not in ready
+     6  the pool is refused. Send D.9 with *code and *object
+
+   *code, *object: with 6 the code of D.9 and the object it names; with every other number, 0 too, both are 0.
+   Afterwards: the client is not enabled. scm_enable, send the E.2, and hand over its reports. To load another pool of the same client: scm_lost, then
+   attach. */
+SCM_MUST_USE static inline uint8_t scm_attach(scm_master *m, size_t slot, uint64_t name, const uint8_t *pool, size_t pool_len, uint8_t *code,
+                                              uint16_t *object)
+{
+    scm_outcome o = scm_master_attach(*m, slot, name, pool, pool_len);
+    if (code != NULL) {
+        *code = o.code;
+    }
+    if (object != NULL) {
+        *object = o.object;
+    }
+    return scm_moved_on(m, &o);
+}
+
+/* The operator wants a client: it is wanted, and E.2 (enable, reason operator) is written to out[0] to out[7]. In ready; again for a wanted client
+   too.
+
+     0  wanted. Send the E.2
+     1  out_len is below SCM_ANSWER_BYTES
+     3  slot above 7 or empty
+     2  not in ready
+
+   Afterwards: it is not enabled yet. It is from its first report on that is not disabled; until then scm_record gives 14 (if no other client is
+   enabled) and scm_start 8 (if it is a client of the sequence). Only a client whose last report is not disabled, since it was enabled before, is
+   enabled at once. scm_slot shows wanted and the last report. */
+SCM_MUST_USE static inline uint8_t scm_enable(scm_master *m, size_t slot, uint8_t *out, size_t out_len)
+{
+    scm_outcome o = scm_master_enable(*m, slot, out, out_len);
+    return scm_moved_on(m, &o);
+}
+
+/* The operator wants a client no more: it is not wanted, and E.2 (disable, reason operator) is written to out[0] to out[7]. In ready; again for an
+   unwanted client too.
+
+     0  not wanted. Send the E.2
+     1  out_len is below SCM_ANSWER_BYTES
+     3  slot above 7 or empty
+     2  not in ready
+
+   Afterwards: the client is enabled no more, at once. It stays attached, and its last report stays: scm_off gives 13 until it has reported disabled.
+   Its reports are taken up to and with that one, then only disabled is. A disabled client keeps its slot for the next scm_enable; scm_lost is what
+   empties it. */
+SCM_MUST_USE static inline uint8_t scm_disable(scm_master *m, size_t slot, uint8_t *out, size_t out_len)
+{
+    scm_outcome o = scm_master_disable(*m, slot, out, out_len);
+    return scm_moved_on(m, &o);
+}
+
+/* A client's status message has come, decoded to one of enum scm_reports: call it with every one. In every active state. It becomes the client's last
+   report; but an enabled client that reports disabled, which is a wanted one that reports it after another report, loses its slot and has to be
+   attached again (scm_attach, scm_enable) to be used. A client whose last report is disabled already keeps its slot, wanted or not, and so does one
+   that is not wanted.
+
+     0  taken
+     4  state is none of enum scm_reports: 3, or above 5
+     3  slot above 7 or empty
+     2  inactive
+     5  the client is not wanted, its last report is disabled, and this one is not: not expected, not kept
+
+   Afterwards look at scm_state. Of a client that was enabled before this report:
+     in record and record complete, disabled: the recording is thrown away, to ready, the old sequence stays. Any other report is just kept: while it
+       is another than record, the client's E.4s give 5
+     in playback, disabled, record or abort: to abort. ready and playback are just kept
+   In abort, a report of any client that leaves every enabled client's last report at abort: to ready. The report that went to abort does not count
+   for this: it takes a later report, loss or tick. In ready the clients then have to report ready before scm_record or scm_start gives 0: until then
+   it gives 12. */
+SCM_MUST_USE static inline uint8_t scm_report(scm_master *m, size_t slot, uint32_t state)
+{
+    scm_outcome o = scm_master_report(*m, slot, state);
+    return scm_moved_on(m, &o);
+}
+
+/* A client is gone: its status message has not come in time, or the host takes it off. In every active state. Its slot is emptied. How long to wait
+   is the host's choice. What the sequence keeps of it stays: attached again in this slot, it can replay.
+
+     0  the slot is empty
+     3  slot above 7 or empty
+     2  inactive
+
+   Afterwards look at scm_state. Where the client was enabled: in record and record complete the recording is thrown away, of all clients, to ready,
+   and the old sequence stays; in playback to abort. A client that was not enabled ends neither. In abort any loss may be the last thing wanted: with
+   every enabled client that is left at abort, to ready. */
+SCM_MUST_USE static inline uint8_t scm_lost(scm_master *m, size_t slot)
+{
+    scm_outcome o = scm_master_lost(*m, slot);
+    return scm_moved_on(m, &o);
+}
+
+/* The operator records: ready to record. Marks count from here.
+
+     0   the state is record. A tick every 100 ms from now on
+     2   not in ready
+     14  no client is enabled: after scm_enable a client has to report, see there
+     12  an enabled client's last report is not ready. Clients that are not enabled do not count
+
+   Afterwards: tell the clients by the status message. A client's E.4s give 5 until it has reported record. scm_progress and scm_taken show what is
+   recorded; scm_step_count and scm_step stay the old sequence's until the recording ends. */
+SCM_MUST_USE static inline uint8_t scm_record(scm_master *m)
+{
+    scm_outcome o = scm_master_record(*m);
+    return scm_moved_on(m, &o);
+}
+
+/* The operator stops the recording, in record: to record complete while a step is open, else to ready.
+
+     0  stopped
+     2  not in record; in record complete too
+
+   Afterwards look at scm_state. In record complete go on with ticks, reports and E.4s: with the E.4 that ends the last open step, done or failed, it
+   goes to ready; a client that never ends it holds the master there until scm_cancel, until an enabled client is lost or reports disabled, or until
+   tick 36,000.
+   When it goes to ready, the steps that are one-shot or done are the new sequence, in order of their starts; scm_step_count and scm_step show it.
+   Where there is none, the OLD sequence stays, and scm_start replays that: ask scm_taken before the end, or compare scm_step and scm_step_count,
+   where it matters. */
+SCM_MUST_USE static inline uint8_t scm_stop(scm_master *m)
+{
+    scm_outcome o = scm_master_stop(*m);
+    return scm_moved_on(m, &o);
+}
+
+/* The operator throws the recording away, in record and record complete: to ready. The old sequence stays.
+
+     0  the state is ready
+     2  neither in record nor in record complete */
+SCM_MUST_USE static inline uint8_t scm_cancel(scm_master *m)
+{
+    scm_outcome o = scm_master_cancel(*m);
+    return scm_moved_on(m, &o);
+}
+
+/* E.4 has come, msg as it came; E.5 is written to out[0] to out[7]. In every active state.
+
+     0  answered: send the E.5. It may say no: look at its error, out[3], or read it by scm_message_read of SCM_MASTER
+     1  out_len is below SCM_ANSWER_BYTES
+     4  msg is no E.4: not 8 bytes, or another code
+     3  slot above 7 or empty
+     2  inactive
+     5  not expected: send a NACK. The E.4 counts if its client is enabled and its last report is record, in record and record complete; and with
+        status SCM_FAILED from an enabled client in playback
+
+   In record and record complete the client's TAN says which step is meant. A TAN by which this client has begun no step of the recording is new: it
+   begins one, with SCM_AT_ONCE (and its value) or with SCM_STARTED; the mark is what is counted so far, in millimetres where the function's trigger
+   is SCM_TRIGGER_DISTANCE in the pool now loaded, else in ticks. A TAN that has begun a step means this step until the recording ends. The error of
+   E.5, enum scm_indication_error, is the first of these that applies:
+
+     0x01  a new TAN, and the client's pool does not list the function
+     0x02  a new TAN, and the function has not the state
+     0x03  a new TAN with status SCM_DONE or SCM_FAILED; a known one with another function or state, or with a status that does not follow: a one-shot
+           step takes SCM_AT_ONCE alone, an open one all but that, a done one SCM_STARTED and SCM_DONE, a failed one SCM_STARTED and SCM_FAILED
+     0xFF  a new TAN in record complete; or SCM_FAILED of an open or failed step: it is failed and will not be kept, the client begins again with a
+           new TAN
+     0x04  a new TAN, and SCM_STEPS steps are held, failed ones too
+     0x00  taken: a step has begun, or an open one is done and has this message's value, or it was said before (a repeated start is no second step)
+
+   With 0x01 to 0x04, and 0xFF for a new TAN, no step is kept of it and nothing changes. The value is not held against minimum and maximum.
+   In playback SCM_FAILED says that the operator has interfered: where the sequence has a step of this slot and function, the error is 0x06 and the
+   master goes to abort; else it is 0xFF and nothing changes.
+   Afterwards: scm_state (record complete may have gone to ready, playback to abort), scm_taken for the step. */
+SCM_MUST_USE static inline uint8_t scm_indication(scm_master *m, size_t slot, const uint8_t *msg, size_t msg_len, uint8_t *out, size_t out_len)
+{
+    scm_outcome o = scm_master_indication(*m, slot, msg, msg_len, out, out_len);
+    return scm_moved_on(m, &o);
+}
+
+/* E.3 has come, msg as it came: a client wants the playback to end. Whatever its error.
+
+     0  the state is abort: tell the clients by the status message
+     4  msg is no E.3: not 8 bytes, another code, or an error that is none of enum scm_abort_error
+     3  slot above 7 or empty
+     2  inactive
+     5  not in playback, or the client is not enabled: send a NACK */
+SCM_MUST_USE static inline uint8_t scm_client_abort(scm_master *m, size_t slot, const uint8_t *msg, size_t msg_len)
+{
+    scm_outcome o = scm_master_client_abort(*m, slot, msg, msg_len);
+    return scm_moved_on(m, &o);
+}
+
+/* The operator replays the sequence: ready to playback, where every check holds. Ticks and millimetres of the playback count from here.
+
+     0   the state is playback. A tick every 100 ms from now on; tell the clients by the status message. Commands leave whether or not they report
+         playback
+     2   not in ready
+     7   the sequence has no step: nothing was ever recorded and kept
+     8   a client of the sequence is not enabled: its slot is empty, or it is not wanted, or its last report is disabled
+     9   its NAME differs from the one kept: another machine, by the rule of HOST.md, "Who may replay"
+     10  its version label or its configuration label differs from the one kept
+     11  its pool has not the function and state of a step
+     12  its last report is not ready. Clients that are not in the sequence need not be ready
+
+   They are looked at in this order: 7; then slot by slot, lowest first, 8, 9, 10; then step by step 11; then slot by slot 12. Which slot or step it
+   is, scm_verify says. What is replayed is the sequence: after a recording that kept no step, or was thrown away, it is the one before. */
+SCM_MUST_USE static inline uint8_t scm_start(scm_master *m)
+{
+    scm_outcome o = scm_master_start(*m);
+    return scm_moved_on(m, &o);
+}
+
+/* The operator stops the playback: playback to abort.
+
+     0  the state is abort
+     2  not in playback
+
+   Afterwards: tell the clients by the status message, and go on with reports and ticks. The master goes to ready at the first later report that is
+   taken, loss or tick at which every enabled client's last report is abort; with no enabled client, at the first of them. */
+SCM_MUST_USE static inline uint8_t scm_abort(scm_master *m)
+{
+    scm_outcome o = scm_master_abort(*m);
+    return scm_moved_on(m, &o);
+}
+
+/* 100 ms have passed, in which mm millimetres were driven. In every active state; it counts in record, record complete and playback, and may end an
+   abort.
+   Fills frames[0] to frames[575]: *count frames of nine bytes (the slot, then the eight of an E.6), and 0 after them; bytes past them stay.
+
+     0  counted. Send each of the *count frames once, to the client of its slot: frames[9 * i], and from frames[9 * i + 1] on the E.6
+     1  frames_len is below SCM_FRAMES_BYTES
+     4  mm is above 65,535
+     2  inactive
+
+   *count: the frames to send, at most 8; 0 where the tick is refused, outside playback, and at a tick that aborts.
+   In playback, in this order: the tick is counted; at tick 36,000 to abort; where a command has no answer 16 ticks after it first left, to abort;
+   else the next step of the sequence leaves if it is due. One new step leaves a tick, in the sequence's order, with the next TAN: a step that is due
+   waits while one before it waits, and not for its answer. A command is in the frames of the tick at which it first leaves and of every second tick
+   after it until it is answered, byte for byte the same: at most five times in ten ticks. So *count is not how many commands are unanswered; it may
+   be 0 while some are.
+   In record and record complete: tick 36,000 throws the recording away, to ready; the old sequence stays.
+   In abort: to ready, where every enabled client's last report is abort.
+   Afterwards: scm_state; scm_progress and scm_sent for the screen. A refused tick has counted nothing: hand its millimetres over with the next
+   one. */
+SCM_MUST_USE static inline uint8_t scm_tick(scm_master *m, uint32_t mm, uint8_t *frames, size_t frames_len, uint32_t *count)
+{
+    scm_outcome o = scm_master_tick(*m, mm, frames, frames_len);
+    if (count != NULL) {
+        *count = o.count;
+    }
+    return scm_moved_on(m, &o);
+}
+
+/* E.7 has come, msg as it came: a client answers a command. E.8 is written to out[0] to out[7].
+
+     0   send the E.8
+     1   out_len is below SCM_ANSWER_BYTES
+     4   msg is no E.7: not 8 bytes, another code, or an error that is none of enum scm_answer_error
+     3   slot above 7 or empty
+     2   inactive
+     15  it matches no command that has left: slot, TAN, function and state are not those of one. Outside playback none counts as sent, so every E.7
+         gives 15, also a late one after the playback has ended. Ignore it: nothing is written and nothing is sent
+
+   Afterwards look at scm_state. SCM_STARTED: the command is not repeated, and may take any time up to tick 36,000. SCM_AT_ONCE and SCM_DONE: the step
+   is done; with the last one to ready. SCM_FAILED, or an error other than 0 with any status: to abort. A further answer for a step that is done,
+   whatever it says, gives 0 and an E.8 and changes nothing. */
+SCM_MUST_USE static inline uint8_t scm_answer(scm_master *m, size_t slot, const uint8_t *msg, size_t msg_len, uint8_t *out, size_t out_len)
+{
+    scm_outcome o = scm_master_answer(*m, slot, msg, msg_len, out, out_len);
+    return scm_moved_on(m, &o);
+}
+
+/* ---- Readers: for the screen and the status message. They answer in every state and change nothing; a view is always written unless it is NULL. */
+
+/* A slot as a host sees it. An empty slot is all 0. */
 typedef struct scm_slot_view {
-    uint8_t taken;
-    uint8_t wanted;
-    uint8_t report;
-    uint64_t name;
+    uint8_t taken;                  /* 0 or 1 */
+    uint8_t wanted;                 /* 0 or 1 */
+    uint8_t report;                 /* the last report, enum scm_reports; enabled is wanted 1 and a report that is not SCM_REPORT_DISABLED */
+    uint64_t name;                  /* the NAME that it was attached with */
 } scm_slot_view;
 
+/* A step as a host sees it. */
 typedef scm_sequence_step scm_step_view;
 
+/* A step of a recording as a host sees it. */
+typedef scm_taken_step scm_taken_view;
+
+/* A command of a playback as a host sees it. */
+typedef scm_sent_step scm_sent_view;
+
+/* Where a check of a start does not hold. */
+typedef struct scm_check_view {
+    size_t slot;                    /* with 8, 9, 10, 11 and 12; else 0 */
+    size_t step;                    /* with 11, counted from 0; else 0 */
+} scm_check_view;
+
+/* What a sequence keeps of a client, as a host sees it. */
 typedef struct scm_client_view {
-    uint8_t used;
-    uint64_t name;
-    uint64_t master_name;
+    uint8_t used;                   /* 1 where the sequence has a step of this slot, else 0 and all else 0 */
+    uint64_t name;                  /* the NAME that it was attached with when its first step was stored */
+    uint64_t master_name;           /* the master NAME of its pool then */
     uint8_t version_length;
     uint8_t version[63];
     uint8_t configuration_length;
     uint8_t configuration[63];
 } scm_client_view;
 
-/* The calls by value; the wrappers below are what a host uses. */
-scm_master scm_master_new(void);
-scm_outcome scm_master_on(scm_master master);
-scm_outcome scm_master_off(scm_master master);
-scm_outcome scm_master_attach(scm_master master, size_t slot, uint64_t name, const uint8_t *pool, size_t pool_len);
-scm_outcome scm_master_enable(scm_master master, size_t slot, uint8_t *out, size_t out_len);
-scm_outcome scm_master_disable(scm_master master, size_t slot, uint8_t *out, size_t out_len);
-scm_outcome scm_master_report(scm_master master, size_t slot, uint32_t report);
-scm_outcome scm_master_lost(scm_master master, size_t slot);
-scm_outcome scm_master_record(scm_master master);
-scm_outcome scm_master_stop(scm_master master);
-scm_outcome scm_master_cancel(scm_master master);
-scm_outcome scm_master_indication(scm_master master, size_t slot, const uint8_t *msg, size_t msg_len, uint8_t *out, size_t out_len);
-scm_outcome scm_master_client_abort(scm_master master, size_t slot, const uint8_t *msg, size_t msg_len);
-scm_outcome scm_master_start(scm_master master);
-scm_outcome scm_master_abort(scm_master master);
-scm_outcome scm_master_tick(scm_master master, uint32_t mm, uint8_t *frames, size_t frames_len);
-scm_outcome scm_master_answer(scm_master master, size_t slot, const uint8_t *msg, size_t msg_len, uint8_t *out, size_t out_len);
-uint8_t scm_master_state(scm_master master);
-scm_slot_result scm_master_slot(scm_master master, size_t slot);
-size_t scm_master_step_count(scm_master master);
-scm_step_result scm_master_step(scm_master master, size_t i);
-scm_client_result scm_master_client(scm_master master, size_t slot);
-
-/* A master as it is made: inactive, no client, no sequence, TAN 0. */
-static inline void scm_init(scm_master *m)
+/* The state, enum scm_states: the host puts it into its status message (F.2). Look at it after every event that gave 0. */
+SCM_MUST_USE static inline uint8_t scm_state(const scm_master *m)
 {
-    *m = scm_master_new();
+    return scm_master_state(m->state);
 }
 
-static inline uint8_t scm_taken_over(scm_master *m, const scm_outcome *o)
-{
-    *m = o->master;
-    return o->number;
-}
+/* A slot: whether it is taken, its client's NAME, wanted and last report.
 
-/* Inactive to ready. 2 when active. */
-static inline uint8_t scm_on(scm_master *m)
-{
-    scm_outcome o = scm_master_on(*m);
-    return scm_taken_over(m, &o);
-}
-
-/* Ready to inactive. 2 outside ready, 13 while an attached client last reported something else than disabled. */
-static inline uint8_t scm_off(scm_master *m)
-{
-    scm_outcome o = scm_master_off(*m);
-    return scm_taken_over(m, &o);
-}
-
-/* A client and its pool fill an empty slot. 3, 2, or 6 with the code of D.9 and the object; with any other number both are 0. */
-static inline uint8_t scm_attach(scm_master *m, size_t slot, uint64_t name, const uint8_t *pool, size_t pool_len, uint8_t *code, uint16_t *object)
-{
-    scm_outcome o = scm_master_attach(*m, slot, name, pool, pool_len);
-    *code = o.code;
-    *object = o.object;
-    return scm_taken_over(m, &o);
-}
-
-/* The client is wanted; E.2 is written, 8 bytes. 1, 3, 2. */
-static inline uint8_t scm_enable(scm_master *m, size_t slot, uint8_t *out, size_t out_len)
-{
-    scm_outcome o = scm_master_enable(*m, slot, out, out_len);
-    return scm_taken_over(m, &o);
-}
-
-/* The client is not wanted any more; E.2 is written, 8 bytes. 1, 3, 2. */
-static inline uint8_t scm_disable(scm_master *m, size_t slot, uint8_t *out, size_t out_len)
-{
-    scm_outcome o = scm_master_disable(*m, slot, out, out_len);
-    return scm_taken_over(m, &o);
-}
-
-/* A client's status report, SCM_REPORT_... 4, 3, 2, 5. */
-static inline uint8_t scm_report(scm_master *m, size_t slot, uint32_t state)
-{
-    scm_outcome o = scm_master_report(*m, slot, state);
-    return scm_taken_over(m, &o);
-}
-
-/* A client's status report has not come in time. 3, 2. */
-static inline uint8_t scm_lost(scm_master *m, size_t slot)
-{
-    scm_outcome o = scm_master_lost(*m, slot);
-    return scm_taken_over(m, &o);
-}
-
-/* Ready to record. 2, 14, 12. */
-static inline uint8_t scm_record(scm_master *m)
-{
-    scm_outcome o = scm_master_record(*m);
-    return scm_taken_over(m, &o);
-}
-
-/* The recording stops: to record complete while a step is open, else to ready. 2. */
-static inline uint8_t scm_stop(scm_master *m)
-{
-    scm_outcome o = scm_master_stop(*m);
-    return scm_taken_over(m, &o);
-}
-
-/* The recording is thrown away; the old sequence stays. 2. */
-static inline uint8_t scm_cancel(scm_master *m)
-{
-    scm_outcome o = scm_master_cancel(*m);
-    return scm_taken_over(m, &o);
-}
-
-/* E.4 in, E.5 out, 8 bytes. 1, 4, 3, 2, 5 (send a NACK). */
-static inline uint8_t scm_indication(scm_master *m, size_t slot, const uint8_t *msg, size_t msg_len, uint8_t *out, size_t out_len)
-{
-    scm_outcome o = scm_master_indication(*m, slot, msg, msg_len, out, out_len);
-    return scm_taken_over(m, &o);
-}
-
-/* E.3 in. 4, 3, 2, 5 (send a NACK). */
-static inline uint8_t scm_client_abort(scm_master *m, size_t slot, const uint8_t *msg, size_t msg_len)
-{
-    scm_outcome o = scm_master_client_abort(*m, slot, msg, msg_len);
-    return scm_taken_over(m, &o);
-}
-
-/* Ready to playback. 2, or the first check that does not hold: 7 to 12. */
-static inline uint8_t scm_start(scm_master *m)
-{
-    scm_outcome o = scm_master_start(*m);
-    return scm_taken_over(m, &o);
-}
-
-/* The operator's word: playback to abort. 2. */
-static inline uint8_t scm_abort(scm_master *m)
-{
-    scm_outcome o = scm_master_abort(*m);
-    return scm_taken_over(m, &o);
-}
-
-/* 100 ms and the millimetres driven in them. Fills 576 bytes with count frames of nine bytes, and 0 after them: send just these. In playback
-   a command stands in the frames of the tick at which it first leaves and of every second tick after it, until its client has answered it: at
-   most five times in ten ticks. So count, at most 8, is not how many commands are unanswered; it may be 0 while some are. 1, 4, 2. */
-static inline uint8_t scm_tick(scm_master *m, uint32_t mm, uint8_t *frames, size_t frames_len, uint32_t *count)
-{
-    scm_outcome o = scm_master_tick(*m, mm, frames, frames_len);
-    *count = o.count;
-    return scm_taken_over(m, &o);
-}
-
-/* E.7 in, E.8 out, 8 bytes. 1, 4, 3, 2, 15. */
-static inline uint8_t scm_answer(scm_master *m, size_t slot, const uint8_t *msg, size_t msg_len, uint8_t *out, size_t out_len)
-{
-    scm_outcome o = scm_master_answer(*m, slot, msg, msg_len, out, out_len);
-    return scm_taken_over(m, &o);
-}
-
-/* The state, SCM_INACTIVE .. SCM_ABORT. */
-static inline uint8_t scm_state(const scm_master *m)
-{
-    return scm_master_state(*m);
-}
-
-/* A slot's NAME, wanted and last report; all 0 where it is empty. 3 above 7. */
-static inline uint8_t scm_slot(const scm_master *m, size_t slot, scm_slot_view *view)
+     0  *view is the slot; all 0 where it is empty
+     3  slot above 7; *view is all 0 */
+SCM_MUST_USE static inline uint8_t scm_slot(const scm_master *m, size_t slot, scm_slot_view *view)
 {
     scm_slot_result r = scm_master_slot(*m, slot);
-    view->taken = r.taken;
-    view->wanted = r.wanted;
-    view->report = r.report;
-    view->name = r.name;
+    if (view != NULL) {
+        view->taken = r.taken;
+        view->wanted = r.wanted;
+        view->report = r.report;
+        view->name = r.name;
+    }
     return r.number;
 }
 
-/* How many steps the sequence has. */
-static inline size_t scm_step_count(const scm_master *m)
+/* How many steps the sequence has, at most SCM_STEPS. During a recording it is still the old sequence's; scm_progress counts what is recorded. */
+SCM_MUST_USE static inline size_t scm_step_count(const scm_master *m)
 {
-    return scm_master_step_count(*m);
+    return scm_master_step_count(m->sequence);
 }
 
-/* Step i of the sequence, counted from 0. 3 past the end. */
-static inline uint8_t scm_step(const scm_master *m, size_t i, scm_step_view *view)
+/* Step i of the sequence, counted from 0; during a recording of the old one.
+
+     0  *view is the step
+     3  i is not below scm_step_count; *view is all 0 */
+SCM_MUST_USE static inline uint8_t scm_step(const scm_master *m, size_t i, scm_step_view *view)
 {
-    scm_step_result r = scm_master_step(*m, i);
-    *view = r.step;
+    scm_step_result r = scm_master_step(m->sequence, i);
+    if (view != NULL) {
+        *view = r.step;
+    }
     return r.number;
 }
 
-/* What the sequence keeps of a slot's client; used is 0 where it has no step. 3 above 7. */
-static inline uint8_t scm_client(const scm_master *m, size_t slot, scm_client_view *view)
+/* What the sequence keeps of a slot's client.
+
+     0  *view is what is kept; all 0 where the sequence has no step of this slot
+     3  slot above 7; *view is all 0 */
+SCM_MUST_USE static inline uint8_t scm_client(const scm_master *m, size_t slot, scm_client_view *view)
 {
-    scm_client_result r = scm_master_client(*m, slot);
-    view->used = r.client.used;
-    view->name = r.client.name;
-    view->master_name = r.client.master;
-    view->version_length = r.client.version.length;
-    view->configuration_length = r.client.configuration.length;
-    for (size_t i = 0; i < sizeof view->version; i++) {
-        view->version[i] = r.client.version.bytes[i];
-        view->configuration[i] = r.client.configuration.bytes[i];
+    scm_client_result r = scm_master_client(m->sequence, slot);
+    if (view != NULL) {
+        view->used = r.client.used;
+        view->name = r.client.name;
+        view->master_name = r.client.master;
+        view->version_length = r.client.version.length;
+        view->configuration_length = r.client.configuration.length;
+        for (size_t i = 0; i < sizeof view->version; i++) {
+            view->version[i] = r.client.version.bytes[i];
+            view->configuration[i] = r.client.configuration.bytes[i];
+        }
+    }
+    return r.number;
+}
+
+/* How far it has come. In record and record complete: the recording's ticks and millimetres so far, and the steps taken, failed ones too. In
+   playback: the playback's ticks and millimetres so far, and the commands that have left; compare with scm_step_count. In every other state all is
+   0. */
+SCM_MUST_USE static inline scm_progress_view scm_progress(const scm_master *m)
+{
+    return scm_master_progress(m->state, m->recording, m->playback);
+}
+
+/* Step i of what is being recorded, counted from 0, in order of start, failed ones too: what it is, its client's TAN and its status.
+
+     0  *view is the step. While it is open (SCM_STARTED) its value is 0; the value comes with SCM_DONE
+     3  i is not below scm_progress(m).count; outside record and record complete always. *view is all 0 */
+SCM_MUST_USE static inline uint8_t scm_taken(const scm_master *m, size_t i, scm_taken_view *view)
+{
+    scm_taken_result r = scm_master_taken(m->recording, i);
+    if (view != NULL) {
+        *view = r.taken;
+    }
+    return r.number;
+}
+
+/* Command i of the playback, which is that of step i of the sequence (scm_step): its TAN, its answer, the tick at which it first left.
+
+     0  *view is the command
+     3  step i has not left yet, or there is none; outside playback always. *view is all 0
+
+   A client that is silent: answer is SCM_UNANSWERED and scm_progress(m).ticks - left comes near 16, at which the playback is aborted; the step's slot
+   names it. */
+SCM_MUST_USE static inline uint8_t scm_sent(const scm_master *m, size_t i, scm_sent_view *view)
+{
+    scm_sent_result r = scm_master_sent(m->playback, i);
+    if (view != NULL) {
+        *view = r.sent;
+    }
+    return r.number;
+}
+
+/* Why a start would be refused, in every state, without starting: the number of the first check that does not hold, in scm_start's order, with its
+   slot and step. In ready, scm_start gives exactly this number.
+
+     0         every check holds; *view is all 0
+     7         the sequence has no step; *view is all 0
+     8, 9, 10  view->slot is the client that is not enabled, whose NAME differs, or whose label differs
+     11        view->step is the step that is not in the pool of view->slot
+     12        view->slot is the client that is not reporting ready */
+SCM_MUST_USE static inline uint8_t scm_verify(const scm_master *m, scm_check_view *view)
+{
+    scm_check_result r = scm_master_verify(*m);
+    if (view != NULL) {
+        view->slot = r.slot;
+        view->step = r.step;
     }
     return r.number;
 }
 
 /* ---- The layout
 
-   Bytes of each struct that crosses to the library, and where its fields stand, on x86-64 Linux. A compiler that lays them out otherwise stops here. */
+   Bytes of each struct that crosses to the library, and where its fields stand, on x86-64 Linux. A compiler that lays them out otherwise stops
+   here. */
 #define SCM_LAYOUT(SIZE, FIELD) \
     SIZE(scm_verdict, 4) FIELD(scm_verdict, code, 0) FIELD(scm_verdict, object, 2) \
     SIZE(scm_object, 720) FIELD(scm_object, kind, 0) FIELD(scm_object, place, 8) FIELD(scm_object, next, 16) FIELD(scm_object, number, 24) \
@@ -663,6 +1288,7 @@ static inline uint8_t scm_client(const scm_master *m, size_t slot, scm_client_vi
         FIELD(scm_object, minimum, 56) FIELD(scm_object, maximum, 60) FIELD(scm_object, offset, 64) FIELD(scm_object, scale, 68) \
         FIELD(scm_object, decimals, 72) FIELD(scm_object, unit, 74) FIELD(scm_object, state, 76) FIELD(scm_object, n, 77) FIELD(scm_object, m, 78) \
         FIELD(scm_object, count, 79) FIELD(scm_object, version, 80) FIELD(scm_object, configuration, 143) FIELD(scm_object, list, 206) \
+    SIZE(scm_placed, 16) FIELD(scm_placed, number, 0) FIELD(scm_placed, next, 8) \
     SIZE(scm_rewritten, 4) FIELD(scm_rewritten, number, 0) FIELD(scm_rewritten, code, 1) FIELD(scm_rewritten, object, 2) \
     SIZE(scm_label, 64) FIELD(scm_label, length, 0) FIELD(scm_label, bytes, 1) \
     SIZE(scm_profile, 2448) FIELD(scm_profile, master, 0) FIELD(scm_profile, mask, 8) FIELD(scm_profile, version, 16) \
@@ -697,14 +1323,21 @@ static inline uint8_t scm_client(const scm_master *m, size_t slot, scm_client_vi
     SIZE(scm_slot_result, 16) FIELD(scm_slot_result, number, 0) FIELD(scm_slot_result, taken, 1) FIELD(scm_slot_result, wanted, 2) \
         FIELD(scm_slot_result, report, 3) FIELD(scm_slot_result, name, 8) \
     SIZE(scm_step_result, 16) FIELD(scm_step_result, number, 0) FIELD(scm_step_result, step, 4) \
-    SIZE(scm_client_result, 160) FIELD(scm_client_result, number, 0) FIELD(scm_client_result, client, 8)
+    SIZE(scm_client_result, 160) FIELD(scm_client_result, number, 0) FIELD(scm_client_result, client, 8) \
+    SIZE(scm_taken_result, 20) FIELD(scm_taken_result, number, 0) FIELD(scm_taken_result, taken, 4) \
+    SIZE(scm_sent_result, 12) FIELD(scm_sent_result, number, 0) FIELD(scm_sent_result, sent, 4) \
+    SIZE(scm_check_result, 24) FIELD(scm_check_result, number, 0) FIELD(scm_check_result, slot, 8) FIELD(scm_check_result, step, 16) \
+    SIZE(scm_progress_view, 16) FIELD(scm_progress_view, ticks, 0) FIELD(scm_progress_view, distance, 4) FIELD(scm_progress_view, count, 8)
 
+/* Internal: the table, asserted row by row. */
 #define SCM_SIZE_HOLDS(type, bytes) SCM_HOLDS(sizeof(type) == bytes);
 #define SCM_FIELD_HOLDS(type, field, at) SCM_HOLDS(offsetof(type, field) == at);
 SCM_LAYOUT(SCM_SIZE_HOLDS, SCM_FIELD_HOLDS)
 
 #ifdef __cplusplus
 }
+#endif
+
 #endif
 
 #endif

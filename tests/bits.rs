@@ -1,7 +1,7 @@
 //! Masters of any bits, which no call gives: tags out of range, counts above 64, cells that should be blank. What document 01 says of every call holds
 //! of them too, and each tag that no call gives counts as a named one, as docs/DECISIONS.md says under "The master's state".
 
-use crate::library::{self, Master, Outcome, Plain, Step, NO_STEP};
+use crate::library::{self, CheckView, Master, Outcome, Plain, ProgressView, Step, NO_CLIENT, NO_SENT, NO_STEP, NO_TAKEN};
 use crate::master::event::Event;
 use crate::pool::generate::{Pool, Random, Shape};
 use std::collections::{BTreeMap, BTreeSet};
@@ -31,6 +31,7 @@ pub fn run(arguments: &[&str]) {
             calls += 1;
         }
         readers(&master);
+        run.verification(&master);
     }
     run.report(count, calls);
 }
@@ -99,6 +100,21 @@ impl Run {
         for command in &mut m.playback.commands {
             command.answer = random.pick(&[0, 1, 2, 3, 255]);
             command.left = m.playback.ticks.wrapping_sub(random.below(20) as u32);
+        }
+        (0..random.below(4)).for_each(|_| self.spoil(m));
+    }
+
+    /// One thing that a start looks at is otherwise.
+    fn spoil(&mut self, m: &mut Master) {
+        let (slot, step) = (self.random.below(8), self.random.below(64));
+        match self.random.below(7) {
+            0 => m.slots[slot].wanted = 0,
+            1 => m.sequence.clients[slot].name ^= 1 << self.random.below(64),
+            2 => m.sequence.clients[slot].version.bytes[0] ^= 1,
+            3 => m.slots[slot].profile.configuration.length ^= 1,
+            4 => m.sequence.steps[step].state = self.random.pick(&[64, 255]),
+            5 => m.slots[slot].profile.trigger[usize::from(m.sequence.steps[step].function)] = 0,
+            _ => m.sequence.steps[step].slot = self.random.pick(&[8, 255]),
         }
     }
 
@@ -193,12 +209,27 @@ impl Run {
         self.met.entry(event.name()).or_default().insert(given.number);
     }
 
+    /// The verification, in the state that the master is in; a start from ready gives its number.
+    fn verification(&mut self, m: &Master) {
+        let given = library::verify(m);
+        let started = library::start(&Master { state: 1, ..*m }).number;
+        let by_value = library::value::verify(m);
+        let same = by_value == library::CheckResult { number: given.0, slot: given.1.slot, step: given.1.step };
+        if given.0 != started || !same || !is_first(m, given) {
+            crate::fail("bits", &format!("verification gives {given:?}, by value {by_value:?}, and a start {started}"));
+        }
+        self.met.entry("verify").or_default().insert(given.0);
+    }
+
     /// Prints what was met. With as many masters as usual, each call was both done and refused.
     fn report(&self, masters: u64, calls: u64) {
         let numbers: usize = self.met.values().map(BTreeSet::len).sum();
         let one_sided: Vec<&str> = self.met.iter().filter(|(_, met)| met.len() < 2 || !met.contains(&0)).map(|(name, _)| *name).collect();
         if masters >= COUNT && !one_sided.is_empty() {
             crate::fail("bits", &format!("only refused or only done: {}", one_sided.join(", ")));
+        }
+        if masters >= COUNT && self.met["verify"] != BTreeSet::from([0, 7, 8, 9, 10, 11, 12]) {
+            crate::fail("bits", &format!("a verification gave {:?} and no others", self.met["verify"]));
         }
         println!("bits: {calls} calls on {masters} masters that no call gives, {numbers} pairs of call and number met: all promises hold");
     }
@@ -241,12 +272,41 @@ fn broken(event: &Event, m: &Master, given: &Outcome, lent: &[u8]) -> Option<&'s
     if wrong { Some("not what the rules say") } else { None }
 }
 
+/// Whether what a verification names is the first check that does not hold: the checks before it hold, and without them it is named still.
+/// "7; then for each slot of the sequence, lowest first, 8, 9 and 10 before the next slot; then by step 11; then by slot 12."
+fn is_first(m: &Master, (number, CheckView { slot, step }): (u8, CheckView)) -> bool {
+    let of = |count: usize, slots: std::ops::Range<usize>| {
+        let mut part = *m;
+        part.sequence.count = count;
+        (0..8).filter(|slot| !slots.contains(slot)).for_each(|slot| part.sequence.clients[slot] = NO_CLIENT);
+        library::verify(&part)
+    };
+    let (count, named) = (m.sequence.count, (number, CheckView { slot, step }));
+    match number {
+        0 | 7 => (slot, step) == (0, 0) && (number == 7) == (count == 0),
+        8..=10 => slot < 8 && step == 0 && of(count, slot..slot + 1) == named && ![7, 8, 9, 10].contains(&of(count, 0..slot).0),
+        11 => {
+            let before = if step == 0 { 0 } else { of(step, 0..8).0 };
+            step < count.min(64) && slot == m.sequence.steps[step].slot.into() && of(step + 1, 0..0) == named && [0, 12].contains(&before)
+        }
+        12 => slot < 8 && step == 0 && of(count, slot..slot + 1) == named && of(count, 0..slot).0 == 0,
+        _ => false,
+    }
+}
+
 /// A state above 5 reads as abort, a count above 64 as 64, and past the end there is nothing.
 fn readers(m: &Master) {
-    let count = m.sequence.count.min(64);
+    let [count, taken, sent] = [m.sequence.count, m.recording.count, m.playback.sent].map(|count| count.min(64));
     let mut right = library::state(m) == m.state.min(5) && library::step_count(m) == count;
-    for i in [0, 1, 62, 63, 64, 65, 1 << 32, usize::MAX].into_iter().chain([count, count.wrapping_sub(1)]) {
+    let (ticks, distance, held) = match m.state {
+        4 => (m.playback.ticks, m.playback.distance, sent),
+        _ => (m.recording.ticks, m.recording.distance, taken),
+    };
+    right &= library::progress(m) == ProgressView { ticks, distance, count: held };
+    for i in (0..66).chain([255, 256, 1 << 32, (1 << 32) + 1, usize::MAX]) {
         right &= library::step(m, i) == if i < count { (0, m.sequence.steps[i]) } else { (3, NO_STEP) };
+        right &= library::taken(m, i) == if i < taken { (0, m.recording.steps[i]) } else { (3, NO_TAKEN) };
+        right &= library::sent(m, i) == if i < sent { (0, m.playback.commands[i]) } else { (3, NO_SENT) };
     }
     for slot in [8, 9, 255, 256, 1 << 32, usize::MAX] {
         let (number, view) = library::slot(m, slot);

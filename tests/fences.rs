@@ -1,10 +1,11 @@
 //! Lent memory that ends where all memory ends: whoever reads or writes a byte past it is stopped by the machine, on every machine. Every call that
-//! is lent bytes gets them so, and from the other side too: they begin where memory begins.
+//! is lent bytes gets them so, and from the other side too: they begin where memory begins. And a master that nobody may write, for the readers.
 
-use crate::library::{self, Message, NO_MESSAGE};
+use crate::library::{self, Master, Message, Object, NO_MESSAGE};
 use crate::master::event::Event;
 use crate::pool::generate::{Pool, Random, Shape};
 use crate::{bits, pool::faults};
+use std::mem::size_of;
 use std::os::raw::{c_int, c_void};
 
 const COUNT: u64 = 300;
@@ -21,6 +22,7 @@ extern "C" {
 /// Private memory of no file, and what may be done with it, as Linux numbers them.
 const ANONYMOUS: c_int = 0x22;
 const NOTHING: c_int = 0;
+const READ: c_int = 1;
 const READ_AND_WRITE: c_int = 3;
 
 /// ROOM bytes between two pages that nobody may touch.
@@ -33,12 +35,31 @@ impl Fence {
         // SAFETY: new memory is asked for, and the middle of it opened.
         unsafe {
             let whole = mmap(std::ptr::null_mut(), ROOM + 2 * PAGE, NOTHING, ANONYMOUS, -1, 0) as *mut u8;
-            let start = whole.wrapping_add(PAGE);
-            if whole as isize == -1 || mprotect(start as *mut c_void, ROOM, READ_AND_WRITE) != 0 {
+            let fence = Fence { start: whole.wrapping_add(PAGE) };
+            if whole as isize == -1 {
                 crate::fail("fences", "no memory");
             }
-            Fence { start }
+            fence.open(READ_AND_WRITE);
+            fence
         }
+    }
+
+    /// What may be done with the bytes between.
+    fn open(&self, protection: c_int) {
+        // SAFETY: the memory is this fence's own.
+        if unsafe { mprotect(self.start as *mut c_void, ROOM, protection) } != 0 {
+            crate::fail("fences", "memory cannot be protected");
+        }
+    }
+
+    /// A copy of a master, which ends or begins at a fence and may be read alone until the memory is opened again.
+    fn sealed(&mut self, m: &Master, upper: bool) -> &Master {
+        let at = self.lend(size_of::<Master>(), upper).as_mut_ptr() as *mut Master;
+        // SAFETY: there is room for it, at a multiple of 8, and a master is bytes.
+        unsafe { at.write(*m) };
+        self.open(READ);
+        // SAFETY: it was written.
+        unsafe { &*at }
     }
 
     /// So many bytes, which end at the upper fence, or begin at the lower one.
@@ -73,6 +94,7 @@ pub fn run(arguments: &[&str]) {
             run.pool(upper);
             run.messages(turn as u8, upper);
             run.events(&mut masters, upper);
+            run.readers(&masters.master(), upper);
         }
     }
     println!("fences: {} calls with lent bytes between fences, none touched", run.calls);
@@ -99,20 +121,60 @@ impl Run {
         let pool = &*self.input.copy(&bytes, upper);
         library::pool_check(pool);
         library::profile_of(pool);
-        let mut place = 0;
+        let (mut place, mut objects) = (0, Vec::new());
         loop {
-            let next = library::object_at(pool, place).next;
+            let object = library::object_at(pool, place);
             self.calls += 1;
-            if next == place {
+            objects.push(object);
+            if object.next == place {
                 break;
             }
-            place = next;
+            place = object.next;
         }
         for room in [pool.len(), pool.len().saturating_sub(1), 0] {
             library::pool_rewrite(pool, self.output.lend(room, upper));
             library::transfer_write(pool, self.output.lend((room + 1).min(ROOM), upper));
         }
         self.calls += 8;
+        objects.iter().for_each(|object| self.object(object, upper));
+    }
+
+    /// An object that was read, and the same with its lengths by chance, into as much room as it needs and less, at each end of it and past it.
+    fn object(&mut self, object: &Object, upper: bool) {
+        let mut other = Object { n: self.random.number() as u8, m: self.random.number() as u8, ..*object };
+        other.count = self.random.number() as u8;
+        let size = object.next - object.place;
+        let before = self.random.below(64);
+        for (it, place, room) in [
+            (object, 0, size),
+            (object, before, before + size),
+            (object, before, (before + size).saturating_sub(1)),
+            (object, usize::MAX - size / 2, size),
+            (&other, before, before + size),
+            (&other, 0, 1_100),
+            (&other, usize::MAX, 0),
+        ] {
+            library::object_write(it, place, self.output.lend(room, upper));
+            self.calls += 1;
+        }
+    }
+
+    /// Every reader, on a master that is lent to be read.
+    fn readers(&mut self, m: &Master, upper: bool) {
+        let m = self.input.sealed(m, upper);
+        library::state(m);
+        library::step_count(m);
+        library::progress(m);
+        library::verify(m);
+        for i in [0, 7, 8, 63, 64, usize::MAX] {
+            library::slot(m, i);
+            library::client(m, i);
+            library::step(m, i);
+            library::taken(m, i);
+            library::sent(m, i);
+        }
+        self.calls += 34;
+        self.input.open(READ_AND_WRITE);
     }
 
     /// Bytes of one code and each length to 20, read; what was read, written again to as much room as it needs, and to less.

@@ -20,15 +20,63 @@ const layout_row through_layout[] = {
     VIEW_SIZE(scm_client_view) VIEW(scm_client_view, used) VIEW(scm_client_view, name) VIEW(scm_client_view, master_name)
     VIEW(scm_client_view, version_length) VIEW(scm_client_view, version) VIEW(scm_client_view, configuration_length)
     VIEW(scm_client_view, configuration)
+    VIEW_SIZE(scm_check_view) VIEW(scm_check_view, slot) VIEW(scm_check_view, step)
 };
 const size_t through_layout_rows = sizeof through_layout / sizeof through_layout[0];
+
+/* ---- The numbers that have names: sizes and limits, and the codes of each enum. */
+#define NAMED(name) { #name, "", name },
+
+const layout_row through_names[] = {
+    NAMED(SCM_SLOTS) NAMED(SCM_STEPS) NAMED(SCM_POOL_BYTES) NAMED(SCM_OBJECT_BYTES) NAMED(SCM_MESSAGE_BYTES) NAMED(SCM_ANSWER_TICKS)
+    NAMED(SCM_LAST_TICK) NAMED(SCM_ANSWER_BYTES) NAMED(SCM_FRAME_BYTES) NAMED(SCM_FRAMES_BYTES)
+    NAMED(SCM_OK) NAMED(SCM_TOO_SHORT) NAMED(SCM_WRONG_STATE) NAMED(SCM_WRONG_SLOT) NAMED(SCM_WRONG_VALUE) NAMED(SCM_NOT_EXPECTED)
+    NAMED(SCM_POOL_REFUSED) NAMED(SCM_NO_STEP) NAMED(SCM_NOT_ENABLED) NAMED(SCM_NAME_DIFFERS) NAMED(SCM_LABEL_DIFFERS) NAMED(SCM_NOT_IN_POOL)
+    NAMED(SCM_NOT_READY) NAMED(SCM_NOT_DISABLED) NAMED(SCM_NO_CLIENT) NAMED(SCM_NO_MATCH)
+    NAMED(SCM_POOL_TAKEN) NAMED(SCM_POOL_UNKNOWN_TYPE) NAMED(SCM_POOL_NO_BASE) NAMED(SCM_POOL_NO_FUNCTION) NAMED(SCM_POOL_NO_STATE)
+    NAMED(SCM_POOL_NUMBER_TWICE) NAMED(SCM_POOL_FUNCTION_TWICE) NAMED(SCM_POOL_STATE_TWICE) NAMED(SCM_POOL_VERSION_LENGTH)
+    NAMED(SCM_POOL_VERSION_BYTES) NAMED(SCM_POOL_CONFIGURATION_LENGTH) NAMED(SCM_POOL_WRONG_VERSION) NAMED(SCM_POOL_OTHER)
+    NAMED(SCM_OBJECT_BASE) NAMED(SCM_OBJECT_FUNCTION) NAMED(SCM_OBJECT_STATE) NAMED(SCM_OBJECT_NONE)
+    NAMED(SCM_TRIGGER_TIME) NAMED(SCM_TRIGGER_DISTANCE) NAMED(SCM_TRIGGER_EITHER)
+    NAMED(SCM_STYLE_HIDDEN) NAMED(SCM_STYLE_SHOWN) NAMED(SCM_STYLE_CHANGED)
+    NAMED(SCM_CLIENT) NAMED(SCM_MASTER)
+    NAMED(SCM_NOTHING) NAMED(SCM_CAPABILITY_REQUEST) NAMED(SCM_CAPABILITY_RESPONSE) NAMED(SCM_MEMORY_REQUEST) NAMED(SCM_MEMORY_RESPONSE)
+    NAMED(SCM_VERSION_REQUEST) NAMED(SCM_VERSION_RESPONSE) NAMED(SCM_CONFIGURATION_REQUEST) NAMED(SCM_CONFIGURATION_RESPONSE) NAMED(SCM_TRANSFER)
+    NAMED(SCM_TRANSFER_RESPONSE) NAMED(SCM_ACTIVATION_COMMAND) NAMED(SCM_POOL_ACKNOWLEDGEMENT) NAMED(SCM_DELETE_COMMAND) NAMED(SCM_DELETE_RESPONSE)
+    NAMED(SCM_STORE_COMMAND) NAMED(SCM_STORE_RESPONSE) NAMED(SCM_LOAD_COMMAND) NAMED(SCM_LOAD_RESPONSE) NAMED(SCM_STATE_COMMAND)
+    NAMED(SCM_CLIENT_ABORT) NAMED(SCM_INDICATION) NAMED(SCM_INDICATION_RESPONSE) NAMED(SCM_COMMAND) NAMED(SCM_ANSWER)
+    NAMED(SCM_ANSWER_ACKNOWLEDGEMENT)
+    NAMED(SCM_AT_ONCE) NAMED(SCM_STARTED) NAMED(SCM_DONE) NAMED(SCM_FAILED)
+    NAMED(SCM_DISABLE) NAMED(SCM_ENABLE)
+    NAMED(SCM_REASON_OPERATOR) NAMED(SCM_REASON_NOT_IN_SEQUENCE) NAMED(SCM_REASON_IN_SEQUENCE) NAMED(SCM_REASON_NONE)
+    NAMED(SCM_ABORT_TIMED_OUT) NAMED(SCM_ABORT_OPERATOR) NAMED(SCM_ABORT_FAULT) NAMED(SCM_ABORT_OTHER)
+    NAMED(SCM_INDICATION_TAKEN) NAMED(SCM_INDICATION_NO_FUNCTION) NAMED(SCM_INDICATION_NO_STATE) NAMED(SCM_INDICATION_WRONG_STATUS)
+    NAMED(SCM_INDICATION_FULL) NAMED(SCM_INDICATION_GOES_ON) NAMED(SCM_INDICATION_STOPPED) NAMED(SCM_INDICATION_OTHER)
+    NAMED(SCM_ANSWER_NO_ERROR) NAMED(SCM_ANSWER_FAULT) NAMED(SCM_ANSWER_OPERATOR) NAMED(SCM_ANSWER_CONDITIONS) NAMED(SCM_ANSWER_OTHER)
+    NAMED(SCM_INACTIVE) NAMED(SCM_READY) NAMED(SCM_RECORD) NAMED(SCM_RECORD_COMPLETE) NAMED(SCM_PLAYBACK) NAMED(SCM_ABORT)
+    NAMED(SCM_REPORT_DISABLED) NAMED(SCM_REPORT_READY) NAMED(SCM_REPORT_RECORD) NAMED(SCM_REPORT_PLAYBACK) NAMED(SCM_REPORT_ABORT)
+    NAMED(SCM_MARK_TICKS) NAMED(SCM_MARK_MILLIMETRES)
+    NAMED(SCM_UNANSWERED) NAMED(SCM_ANSWERED_STARTED) NAMED(SCM_ANSWERED_DONE)
+};
+const size_t through_names_rows = sizeof through_names / sizeof through_names[0];
 
 /* ---- Declared here as well, for external functions have a declaration before them. */
 #define THROUGH(result, name, parameters, call) result name parameters; result name parameters { call; }
 
+/* ---- The version: the header's, and the archive's */
+THROUGH(uint32_t, through_header_version, (void), return SCM_VERSION)
+THROUGH(uint32_t, through_version, (void), return scm_version())
+
 /* ---- Texts */
 THROUGH(const char *, through_number_text, (uint8_t number), return scm_number_text(number))
 THROUGH(const char *, through_pool_code_text, (uint8_t code), return scm_pool_code_text(code))
+THROUGH(const char *, through_state_text, (uint8_t state), return scm_state_text(state))
+THROUGH(const char *, through_report_text, (uint8_t report), return scm_report_text(report))
+THROUGH(const char *, through_status_text, (uint8_t status), return scm_status_text(status))
+THROUGH(const char *, through_reason_text, (uint8_t reason), return scm_reason_text(reason))
+THROUGH(const char *, through_abort_text, (uint8_t error), return scm_abort_text(error))
+THROUGH(const char *, through_indication_error_text, (uint8_t error), return scm_indication_error_text(error))
+THROUGH(const char *, through_answer_error_text, (uint8_t error), return scm_answer_error_text(error))
 
 /* ---- The pool */
 THROUGH(void, through_pool_check, (const uint8_t *pool, size_t len, scm_verdict *r), *r = scm_pool_check(pool, len))
@@ -36,6 +84,10 @@ THROUGH(void, through_profile_of, (const uint8_t *pool, size_t len, scm_profile 
 THROUGH(void, through_object_at, (const uint8_t *pool, size_t len, size_t place, scm_object *r), *r = scm_object_at(pool, len, place))
 THROUGH(void, through_pool_rewrite, (const uint8_t *pool, size_t len, uint8_t *out, size_t out_len, scm_rewritten *r),
         *r = scm_pool_rewrite(pool, len, out, out_len))
+THROUGH(uint8_t, through_object_write, (const scm_object *object, size_t place, uint8_t *out, size_t out_len, size_t *next),
+        return scm_object_write(object, place, out, out_len, next))
+THROUGH(void, value_write_object, (const scm_object *object, size_t place, uint8_t *out, size_t out_len, scm_placed *r),
+        *r = scm_write_object(*object, place, out, out_len))
 
 /* ---- Messages */
 THROUGH(uint8_t, through_message_read, (uint32_t side, const uint8_t *bytes, size_t len, scm_message *message),
@@ -82,8 +134,12 @@ THROUGH(uint8_t, through_slot, (const scm_master *m, size_t slot, scm_slot_view 
 THROUGH(size_t, through_step_count, (const scm_master *m), return scm_step_count(m))
 THROUGH(uint8_t, through_step, (const scm_master *m, size_t i, scm_step_view *view), return scm_step(m, i, view))
 THROUGH(uint8_t, through_client, (const scm_master *m, size_t slot, scm_client_view *view), return scm_client(m, slot, view))
+THROUGH(void, through_progress, (const scm_master *m, scm_progress_view *view), *view = scm_progress(m))
+THROUGH(uint8_t, through_taken, (const scm_master *m, size_t i, scm_taken_view *view), return scm_taken(m, i, view))
+THROUGH(uint8_t, through_sent, (const scm_master *m, size_t i, scm_sent_view *view), return scm_sent(m, i, view))
+THROUGH(uint8_t, through_verify, (const scm_master *m, scm_check_view *view), return scm_verify(m, view))
 
-/* ---- The master by value */
+/* ---- The master by value; the readers take the part of it that they read */
 THROUGH(void, value_on, (const scm_master *m, scm_outcome *o), *o = scm_master_on(*m))
 THROUGH(void, value_off, (const scm_master *m, scm_outcome *o), *o = scm_master_off(*m))
 THROUGH(void, value_attach, (const scm_master *m, size_t slot, uint64_t name, const uint8_t *pool, size_t len, scm_outcome *o),
@@ -109,6 +165,13 @@ THROUGH(void, value_tick, (const scm_master *m, uint32_t mm, uint8_t *frames, si
 THROUGH(void, value_answer,
         (const scm_master *m, size_t slot, const uint8_t *msg, size_t len, uint8_t *out, size_t out_len, scm_outcome *o),
         *o = scm_master_answer(*m, slot, msg, len, out, out_len))
+THROUGH(uint8_t, value_state, (uint8_t state), return scm_master_state(state))
 THROUGH(void, value_slot, (const scm_master *m, size_t slot, scm_slot_result *r), *r = scm_master_slot(*m, slot))
-THROUGH(void, value_step, (const scm_master *m, size_t i, scm_step_result *r), *r = scm_master_step(*m, i))
-THROUGH(void, value_client, (const scm_master *m, size_t slot, scm_client_result *r), *r = scm_master_client(*m, slot))
+THROUGH(size_t, value_step_count, (const scm_sequence *sequence), return scm_master_step_count(*sequence))
+THROUGH(void, value_step, (const scm_sequence *sequence, size_t i, scm_step_result *r), *r = scm_master_step(*sequence, i))
+THROUGH(void, value_client, (const scm_sequence *sequence, size_t slot, scm_client_result *r), *r = scm_master_client(*sequence, slot))
+THROUGH(void, value_progress, (uint8_t state, const scm_recording *recording, const scm_playback *playback, scm_progress_view *r),
+        *r = scm_master_progress(state, *recording, *playback))
+THROUGH(void, value_taken, (const scm_recording *recording, size_t i, scm_taken_result *r), *r = scm_master_taken(*recording, i))
+THROUGH(void, value_sent, (const scm_playback *playback, size_t i, scm_sent_result *r), *r = scm_master_sent(*playback, i))
+THROUGH(void, value_verify, (const scm_master *m, scm_check_result *r), *r = scm_master_verify(*m))

@@ -2,6 +2,11 @@
 //!
 //! A wrapper writes what it gives to the memory that is handed over, in any case: so that memory holds POISON before each call.
 
+#[path = "library/unwanted.rs"]
+pub mod unwanted;
+#[path = "library/value.rs"]
+pub mod value;
+
 use std::ffi::CStr;
 use std::mem::{size_of, MaybeUninit};
 use std::os::raw::c_char;
@@ -88,6 +93,11 @@ structs! {
         version: [u8; 63],
         configuration: [u8; 63],
         list: [u16; 255],
+    }
+
+    "scm_placed" Placed {
+        number: u8,
+        next: usize,
     }
 
     "scm_rewritten" Rewritten {
@@ -250,6 +260,28 @@ structs! {
         client: Client,
     }
 
+    "scm_taken_result" TakenResult {
+        number: u8,
+        taken: Taken,
+    }
+
+    "scm_sent_result" SentResult {
+        number: u8,
+        sent: Sent,
+    }
+
+    "scm_check_result" CheckResult {
+        number: u8,
+        slot: usize,
+        step: usize,
+    }
+
+    "scm_progress_view" ProgressView {
+        ticks: u32,
+        distance: u32,
+        count: usize,
+    }
+
     "scm_slot_view" SlotView {
         taken: u8,
         wanted: u8,
@@ -265,6 +297,11 @@ structs! {
         version: [u8; 63],
         configuration_length: u8,
         configuration: [u8; 63],
+    }
+
+    "scm_check_view" CheckView {
+        slot: usize,
+        step: usize,
     }
 }
 
@@ -329,8 +366,8 @@ macro_rules! plain {
     ($($name:ty)*) => { $(impl Plain for $name {})* };
 }
 
-plain! { u8 u16 u32 usize f64 Verdict Object Rewritten Profile Message MessageReading Written Shown Master Outcome Step }
-plain! { SlotResult StepResult ClientResult SlotView ClientView }
+plain! { u8 u16 u32 usize f64 Verdict Object Placed Rewritten Profile Message MessageReading Written Shown Master Outcome Step Taken Sent }
+plain! { SlotResult StepResult ClientResult TakenResult SentResult CheckResult ProgressView SlotView ClientView CheckView }
 
 /// What a call writes to memory that is handed over: the memory holds POISON before.
 fn into<T: Plain>(call: impl FnOnce(&mut T)) -> T {
@@ -354,20 +391,50 @@ fn text(from: *const c_char) -> String {
     unsafe { CStr::from_ptr(from) }.to_string_lossy().into_owned()
 }
 
-/// The table of the header: struct, field (none for the size), and the number.
+/// A table of the header: two names (the second may be none), and a number.
+fn table(rows: *const HeaderRow, count: usize) -> Vec<(String, String, usize)> {
+    let rows = unsafe { std::slice::from_raw_parts(rows, count) };
+    rows.iter().map(|row| (text(row.first), text(row.second), row.number)).collect()
+}
+
+#[repr(C)]
+struct HeaderRow {
+    first: *const c_char,
+    second: *const c_char,
+    number: usize,
+}
+
+extern "C" {
+    static through_layout: [HeaderRow; 0];
+    static through_layout_rows: usize;
+    static through_names: [HeaderRow; 0];
+    static through_names_rows: usize;
+}
+
+/// Struct, field (none for the size), and the number.
 pub fn header_layout() -> Vec<(String, String, usize)> {
-    #[repr(C)]
-    struct HeaderRow {
-        structure: *const c_char,
-        field: *const c_char,
-        bytes: usize,
-    }
-    extern "C" {
-        static through_layout: [HeaderRow; 0];
-        static through_layout_rows: usize;
-    }
-    let rows = unsafe { std::slice::from_raw_parts(addr_of!(through_layout) as *const HeaderRow, through_layout_rows) };
-    rows.iter().map(|row| (text(row.structure), text(row.field), row.bytes)).collect()
+    unsafe { table(addr_of!(through_layout).cast(), through_layout_rows) }
+}
+
+/// The sizes, limits and codes by their names.
+pub fn header_names() -> Vec<(String, usize)> {
+    let rows = unsafe { table(addr_of!(through_names).cast(), through_names_rows) };
+    rows.into_iter().map(|(name, _, number)| (name, number)).collect()
+}
+
+// ---- The version
+
+extern "C" {
+    fn through_header_version() -> u32;
+    fn through_version() -> u32;
+}
+
+pub fn header_version() -> u32 {
+    unsafe { through_header_version() }
+}
+
+pub fn version() -> u32 {
+    unsafe { through_version() }
 }
 
 // ---- Texts
@@ -375,6 +442,13 @@ pub fn header_layout() -> Vec<(String, String, usize)> {
 extern "C" {
     fn through_number_text(number: u8) -> *const c_char;
     fn through_pool_code_text(code: u8) -> *const c_char;
+    fn through_state_text(state: u8) -> *const c_char;
+    fn through_report_text(report: u8) -> *const c_char;
+    fn through_status_text(status: u8) -> *const c_char;
+    fn through_reason_text(reason: u8) -> *const c_char;
+    fn through_abort_text(error: u8) -> *const c_char;
+    fn through_indication_error_text(error: u8) -> *const c_char;
+    fn through_answer_error_text(error: u8) -> *const c_char;
 }
 
 pub fn number_text(number: u8) -> String {
@@ -385,6 +459,34 @@ pub fn pool_code_text(code: u8) -> String {
     text(unsafe { through_pool_code_text(code) })
 }
 
+pub fn state_text(state: u8) -> String {
+    text(unsafe { through_state_text(state) })
+}
+
+pub fn report_text(report: u8) -> String {
+    text(unsafe { through_report_text(report) })
+}
+
+pub fn status_text(status: u8) -> String {
+    text(unsafe { through_status_text(status) })
+}
+
+pub fn reason_text(reason: u8) -> String {
+    text(unsafe { through_reason_text(reason) })
+}
+
+pub fn abort_text(error: u8) -> String {
+    text(unsafe { through_abort_text(error) })
+}
+
+pub fn indication_error_text(error: u8) -> String {
+    text(unsafe { through_indication_error_text(error) })
+}
+
+pub fn answer_error_text(error: u8) -> String {
+    text(unsafe { through_answer_error_text(error) })
+}
+
 // ---- The pool
 
 extern "C" {
@@ -392,6 +494,7 @@ extern "C" {
     fn through_profile_of(pool: *const u8, len: usize, profile: *mut Profile);
     fn through_object_at(pool: *const u8, len: usize, place: usize, object: *mut Object);
     fn through_pool_rewrite(pool: *const u8, len: usize, out: *mut u8, out_len: usize, answer: *mut Rewritten);
+    fn through_object_write(object: *const Object, place: usize, out: *mut u8, out_len: usize, next: *mut usize) -> u8;
 }
 
 pub fn pool_check(pool: &[u8]) -> Verdict {
@@ -408,6 +511,11 @@ pub fn object_at(pool: &[u8], place: usize) -> Object {
 
 pub fn pool_rewrite(pool: &[u8], out: &mut [u8]) -> Rewritten {
     into(|answer| unsafe { through_pool_rewrite(pool.as_ptr(), pool.len(), out.as_mut_ptr(), out.len(), answer) })
+}
+
+/// The number, and the next place.
+pub fn object_write(object: &Object, place: usize, out: &mut [u8]) -> (u8, usize) {
+    numbered(|next| unsafe { through_object_write(object, place, out.as_mut_ptr(), out.len(), next) })
 }
 
 // ---- Messages
@@ -476,6 +584,10 @@ extern "C" {
     fn through_step_count(m: *const Master) -> usize;
     fn through_step(m: *const Master, i: usize, view: *mut Step) -> u8;
     fn through_client(m: *const Master, slot: usize, view: *mut ClientView) -> u8;
+    fn through_progress(m: *const Master, view: *mut ProgressView);
+    fn through_taken(m: *const Master, i: usize, view: *mut Taken) -> u8;
+    fn through_sent(m: *const Master, i: usize, view: *mut Sent) -> u8;
+    fn through_verify(m: *const Master, view: *mut CheckView) -> u8;
 }
 
 /// A wrapper that gives a number and nothing else.
@@ -597,125 +709,18 @@ pub fn client(m: &Master, slot: usize) -> (u8, ClientView) {
     numbered(|view| unsafe { through_client(m, slot, view) })
 }
 
-/// The calls by value that the wrappers stand over, under the wrappers' names.
-pub mod value {
-    use super::{into, ClientResult, Master, Message, MessageReading, Outcome, Shown, SlotResult, StepResult, Written};
+pub fn progress(m: &Master) -> ProgressView {
+    into(|view| unsafe { through_progress(m, view) })
+}
 
-    extern "C" {
-        fn value_read(side: u32, bytes: *const u8, len: usize, reading: *mut MessageReading);
-        fn value_write(message: *const Message, out: *mut u8, out_len: usize, written: *mut Written);
-        fn value_write_transfer(pool: *const u8, len: usize, out: *mut u8, out_len: usize, written: *mut Written);
-        fn value_shown_of(value: u32, offset: i32, scale: f32, shown: *mut Shown);
-        fn value_on(m: *const Master, o: *mut Outcome);
-        fn value_off(m: *const Master, o: *mut Outcome);
-        fn value_attach(m: *const Master, slot: usize, name: u64, pool: *const u8, len: usize, o: *mut Outcome);
-        fn value_enable(m: *const Master, slot: usize, out: *mut u8, out_len: usize, o: *mut Outcome);
-        fn value_disable(m: *const Master, slot: usize, out: *mut u8, out_len: usize, o: *mut Outcome);
-        fn value_report(m: *const Master, slot: usize, report: u32, o: *mut Outcome);
-        fn value_lost(m: *const Master, slot: usize, o: *mut Outcome);
-        fn value_record(m: *const Master, o: *mut Outcome);
-        fn value_stop(m: *const Master, o: *mut Outcome);
-        fn value_cancel(m: *const Master, o: *mut Outcome);
-        fn value_indication(m: *const Master, slot: usize, msg: *const u8, len: usize, out: *mut u8, out_len: usize, o: *mut Outcome);
-        fn value_client_abort(m: *const Master, slot: usize, msg: *const u8, len: usize, o: *mut Outcome);
-        fn value_start(m: *const Master, o: *mut Outcome);
-        fn value_abort(m: *const Master, o: *mut Outcome);
-        fn value_tick(m: *const Master, mm: u32, frames: *mut u8, frames_len: usize, o: *mut Outcome);
-        fn value_answer(m: *const Master, slot: usize, msg: *const u8, len: usize, out: *mut u8, out_len: usize, o: *mut Outcome);
-        fn value_slot(m: *const Master, slot: usize, r: *mut SlotResult);
-        fn value_step(m: *const Master, i: usize, r: *mut StepResult);
-        fn value_client(m: *const Master, slot: usize, r: *mut ClientResult);
-    }
+pub fn taken(m: &Master, i: usize) -> (u8, Taken) {
+    numbered(|view| unsafe { through_taken(m, i, view) })
+}
 
-    pub fn message_read(side: u32, bytes: &[u8]) -> MessageReading {
-        into(|reading| unsafe { value_read(side, bytes.as_ptr(), bytes.len(), reading) })
-    }
+pub fn sent(m: &Master, i: usize) -> (u8, Sent) {
+    numbered(|view| unsafe { through_sent(m, i, view) })
+}
 
-    pub fn message_write(message: &Message, out: &mut [u8]) -> Written {
-        into(|written| unsafe { value_write(message, out.as_mut_ptr(), out.len(), written) })
-    }
-
-    pub fn transfer_write(pool: &[u8], out: &mut [u8]) -> Written {
-        into(|written| unsafe { value_write_transfer(pool.as_ptr(), pool.len(), out.as_mut_ptr(), out.len(), written) })
-    }
-
-    pub fn shown(value: u32, offset: i32, scale: f32) -> Shown {
-        into(|shown| unsafe { value_shown_of(value, offset, scale, shown) })
-    }
-
-    pub fn on(m: &Master) -> Outcome {
-        into(|o| unsafe { value_on(m, o) })
-    }
-
-    pub fn off(m: &Master) -> Outcome {
-        into(|o| unsafe { value_off(m, o) })
-    }
-
-    pub fn attach(m: &Master, slot: usize, name: u64, pool: &[u8]) -> Outcome {
-        into(|o| unsafe { value_attach(m, slot, name, pool.as_ptr(), pool.len(), o) })
-    }
-
-    pub fn enable(m: &Master, slot: usize, out: &mut [u8]) -> Outcome {
-        into(|o| unsafe { value_enable(m, slot, out.as_mut_ptr(), out.len(), o) })
-    }
-
-    pub fn disable(m: &Master, slot: usize, out: &mut [u8]) -> Outcome {
-        into(|o| unsafe { value_disable(m, slot, out.as_mut_ptr(), out.len(), o) })
-    }
-
-    pub fn report(m: &Master, slot: usize, report: u32) -> Outcome {
-        into(|o| unsafe { value_report(m, slot, report, o) })
-    }
-
-    pub fn lost(m: &Master, slot: usize) -> Outcome {
-        into(|o| unsafe { value_lost(m, slot, o) })
-    }
-
-    pub fn record(m: &Master) -> Outcome {
-        into(|o| unsafe { value_record(m, o) })
-    }
-
-    pub fn stop(m: &Master) -> Outcome {
-        into(|o| unsafe { value_stop(m, o) })
-    }
-
-    pub fn cancel(m: &Master) -> Outcome {
-        into(|o| unsafe { value_cancel(m, o) })
-    }
-
-    pub fn indication(m: &Master, slot: usize, message: &[u8], out: &mut [u8]) -> Outcome {
-        into(|o| unsafe { value_indication(m, slot, message.as_ptr(), message.len(), out.as_mut_ptr(), out.len(), o) })
-    }
-
-    pub fn client_abort(m: &Master, slot: usize, message: &[u8]) -> Outcome {
-        into(|o| unsafe { value_client_abort(m, slot, message.as_ptr(), message.len(), o) })
-    }
-
-    pub fn start(m: &Master) -> Outcome {
-        into(|o| unsafe { value_start(m, o) })
-    }
-
-    pub fn abort(m: &Master) -> Outcome {
-        into(|o| unsafe { value_abort(m, o) })
-    }
-
-    pub fn tick(m: &Master, mm: u32, frames: &mut [u8]) -> Outcome {
-        into(|o| unsafe { value_tick(m, mm, frames.as_mut_ptr(), frames.len(), o) })
-    }
-
-    pub fn answer(m: &Master, slot: usize, message: &[u8], out: &mut [u8]) -> Outcome {
-        into(|o| unsafe { value_answer(m, slot, message.as_ptr(), message.len(), out.as_mut_ptr(), out.len(), o) })
-    }
-
-    pub fn slot(m: &Master, slot: usize) -> SlotResult {
-        into(|r| unsafe { value_slot(m, slot, r) })
-    }
-
-    pub fn step(m: &Master, i: usize) -> StepResult {
-        into(|r| unsafe { value_step(m, i, r) })
-    }
-
-    pub fn client(m: &Master, slot: usize) -> ClientResult {
-        into(|r| unsafe { value_client(m, slot, r) })
-    }
+pub fn verify(m: &Master) -> (u8, CheckView) {
+    numbered(|view| unsafe { through_verify(m, view) })
 }

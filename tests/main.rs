@@ -3,9 +3,9 @@
 //!   main                        every part, each in one line and what it met
 //!   main long                   the same with many more cases
 //!   main small                  every part with few cases, for a checker of memory
-//!   main PART [COUNT [SEED]]    one part, with so many cases and from such a number: pool, objects, profile, shown, bits, fences
+//!   main PART [COUNT [SEED]]    one part, with so many cases and from such a number: pool, objects, profile, shown, bits, fences, unwanted
 //!   main message [COUNT]        so many messages of each clause are tried with every value of every byte
-//!   main layout, main texts     one part
+//!   main layout, texts or names one part
 //!   main master [COUNT]         the cases of 01, then scenarios; fails where something that must be met was not
 //!   main master met             the same, and prints all that was met, and how often
 //!   main master SEED COUNT      so many other scenarios from this number on
@@ -19,17 +19,20 @@ mod layout;
 mod library;
 mod master;
 mod message;
+mod names;
 mod objects;
 mod pool;
 mod profile;
 mod shown;
 mod texts;
+mod unwanted;
 
 type Part = fn(&[&str]);
 
 /// The parts: name, function, and the arguments for many cases and for few.
 const PARTS: &[(&str, Part, &[&str], &[&str])] = &[
     ("texts", texts::run, &[], &[]),
+    ("names", names::run, &[], &[]),
     ("layout", layout::run, &[], &[]),
     ("pool", pool::run, &["40000"], &["1"]),
     ("objects", objects::run, &["4000"], &["250"]),
@@ -38,6 +41,7 @@ const PARTS: &[(&str, Part, &[&str], &[&str])] = &[
     ("shown", shown::run, &["20000000"], &["10000"]),
     ("bits", bits::run, &["10000"], &["50"]),
     ("fences", fences::run, &["3000"], &["20"]),
+    ("unwanted", unwanted::run, &["3000"], &["20"]),
     ("master", master::run, &["1200"], &["11783", "12"]),
 ];
 

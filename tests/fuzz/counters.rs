@@ -46,6 +46,10 @@ pub enum Row {
     Written,
     /// How the TAN and the tick counters run, by their leading bits.
     Counts,
+    /// The number of a verification, and its slot.
+    Verified,
+    /// The kind of an object written, by number.
+    Object,
 }
 
 fn bump(place: usize) {

@@ -37,6 +37,9 @@ mod messages;
 #[allow(dead_code)]
 #[path = "../master/model.rs"]
 mod model;
+#[path = "../objects/model.rs"]
+mod object_model;
+mod objects;
 mod pair;
 #[allow(dead_code)]
 #[path = "../master/playback.rs"]

@@ -14,6 +14,7 @@ use crate::taken::Log;
 pub const BUFFER: usize = 640;
 const FRAMES: usize = 576;
 const LAST_TICK: u32 = 36_000;
+const READY: u8 = 1;
 const PLAYBACK: u8 = 4;
 /// So many ticks before something happens are done, lest it happen too early.
 const NEAR: u32 = 4;
@@ -77,6 +78,9 @@ impl Pair {
             found(&format!("lent bytes: the library gives {:02X?}, the model {:02X?}", &self.lent[..room], &wanted_bytes[..room]));
         }
         self.keeps(event, &outcome, &before);
+        if let Event::Start = event {
+            self.starts(outcome.number);
+        }
         self.count(event, &outcome);
         if outcome.number == 0 {
             *self.library = outcome.master;
@@ -97,6 +101,20 @@ impl Pair {
         }
     }
 
+    /// A start from ready gives the number of the verification just before it. The model has the same clients and sequence after it as before.
+    fn starts(&mut self, number: u8) {
+        let (given, wanted) = (library::verify(&self.library), view::verify(&self.model));
+        counters::count(Row::Verified, usize::from(given.0) * 16 + given.1.slot);
+        if given != wanted || self.library.state == READY && given.0 != number {
+            found(&format!("verification: the library gives {given:?}, the model {wanted:?}; a start {number}"));
+        }
+        if let Some(met) = &mut self.met {
+            if let Err(unknown) = met.verified(&self.model) {
+                found(&format!("no rule allows: {unknown}"));
+            }
+        }
+    }
+
     fn compare_states(&mut self) {
         self.renderer.render(&self.model, &mut self.wanted);
         if *self.library != *self.wanted {
@@ -104,18 +122,26 @@ impl Pair {
         }
     }
 
-    /// At the end of an input: two readers, for all of them take as long as many events.
+    /// At the end of an input: some readers, for all of them take as long as many events.
     pub fn end(&self) {
         let (library, model) = (&*self.library, &self.model);
-        if library::state(library) != view::state(model) || library::step_count(library) != model.sequence.steps.len() {
+        let mut same = library::state(library) == view::state(model) && library::step_count(library) == model.sequence.steps.len();
+        same &= library::progress(library) == view::progress(model) && library::verify(library) == view::verify(model);
+        if !same {
             found("a reader does not give what the state holds");
         }
     }
 
-    /// The readers, on every slot and step there is, and beyond.
+    /// The readers, on every slot, step and command there is, and beyond.
     pub fn readers(&mut self) {
         let (library, model) = (&*self.library, &self.model);
         let mut same = library::state(library) == view::state(model);
+        let progress = view::progress(model);
+        same &= library::progress(library) == progress && library::verify(library) == view::verify(model);
+        for place in (0..=progress.count).chain([64, 256, 1 << 32, usize::MAX]) {
+            same &= library::taken(library, place) == view::taken(model, place);
+            same &= library::sent(library, place) == view::sent(model, place);
+        }
         for slot in (0..8).chain([8, 256, 1 << 32, usize::MAX]) {
             same &= library::slot(library, slot) == view::slot(model, slot);
             same &= library::client(library, slot) == view::client(model, slot);
@@ -130,6 +156,7 @@ impl Pair {
         }
         if let Some(met) = &mut self.met {
             met.readers(count);
+            met.progress(&self.model);
         }
     }
 

@@ -7,6 +7,7 @@ use crate::entry::found;
 use crate::generate::Random;
 use crate::kept;
 use crate::library;
+use crate::objects;
 use crate::recording::{Mark, Step};
 use crate::samples::{changed, damaged, Sample, CHANGES};
 use std::rc::Rc;
@@ -24,6 +25,9 @@ const DAMAGED: usize = 48;
 const LARGE: usize = 1_000;
 /// What may stand behind a lent pool without meaning anything.
 const BEHIND: usize = 16;
+
+/// The least byte of the mode by which an object is written; the others below 128 judge a known pool.
+pub const OBJECTS: u8 = 100;
 
 /// A NAME and the pool that goes with it.
 #[derive(Clone)]
@@ -107,10 +111,12 @@ pub fn edited(mut pool: Vec<u8>, bytes: &mut Bytes, edits: usize) -> Vec<u8> {
     pool
 }
 
-/// The mode: any bytes, or a known pool with edits, judged by the library and by the model; an accepted one is written again.
+/// The mode: any bytes, or a known pool with edits, judged by the library and by the model, and its objects read; an accepted one is written
+/// again. Or one object of a known pool, with edits of its fields, is written.
 pub fn judge(pools: &Pools, bytes: &mut Bytes) {
     let from = bytes.byte();
     let pool = match from {
+        OBJECTS..=127 => return objects::write(&pools.client(usize::from(from), 0).pool, bytes),
         0..=127 => {
             let variant = usize::from(bytes.byte());
             edited(pools.client(usize::from(from), variant).pool.to_vec(), bytes, 32)
@@ -128,6 +134,7 @@ pub fn judge(pools: &Pools, bytes: &mut Bytes) {
         found("pool: bytes that are only read were changed");
     }
     counters::count(Row::Pool, usize::from(given.code));
+    objects::read(&pool);
     rewrite(&pool, wanted, usize::from(from) % 3);
 }
 

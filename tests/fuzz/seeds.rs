@@ -2,6 +2,7 @@
 
 use crate::decode::op::*;
 use crate::entry::{MASTER, MESSAGE, POOL};
+use crate::pools::OBJECTS;
 use crate::samples::CHANGES;
 
 /// Reports by their place in the table of decode.rs.
@@ -126,10 +127,12 @@ fn others() -> Vec<Vec<u8>> {
     ]
 }
 
-/// Legal ones, one with a byte changed, one of zeros, and damaged ones.
+/// Legal ones, one with a byte changed, one of zeros, and damaged ones; and objects that are written, as they are and with a field edited.
 fn pools() -> Vec<Vec<u8>> {
     let mut seeds = vec![vec![POOL, 0, 0], vec![POOL, 1, 0, 0, 30, 0, 65], vec![POOL, 4, 0], [&[POOL, 128, 0][..], &[0; 30]].concat()];
     seeds.extend((0..24).map(|place| vec![POOL, 2, CHANGED + 2 * place]));
+    seeds.extend((0..8).map(|object| vec![POOL, OBJECTS, object, 3 * object, 0]));
+    seeds.extend((0..24).map(|field| vec![POOL, OBJECTS + field % 8, field % 7, 0, 0, field, 1, 0, 40, 0]));
     seeds
 }
 

@@ -2,9 +2,11 @@
 //! the rules of document 01 name, to what they say, and each reader gives exactly its fields.
 
 use super::Seen;
-use crate::library::{self, Client, ClientView, Master, Outcome, Plain, Sent, Slot, SlotView, Step, Taken};
-use crate::library::{NO_CLIENT, NO_PLAYBACK, NO_RECORDING, NO_SLOT, NO_STEP};
+use crate::library::{self, CheckView, Client, ClientView, Master, Outcome, Plain, ProgressView, Sent, Slot, SlotView, Step, Taken};
+use crate::library::{NO_CLIENT, NO_PLAYBACK, NO_RECORDING, NO_SENT, NO_SLOT, NO_STEP, NO_TAKEN};
 use crate::pool::generate::{Pool, Random, Shape};
+
+type Rows<'a> = &'a [(&'static str, &'static [&'static str])];
 
 /// A function and a state that clients have here.
 const FUNCTION: u8 = 0x5A;
@@ -61,14 +63,21 @@ fn readers(seen: &mut Seen, random: &mut Random) {
         let mut m = any(random);
         m.sequence.count = count;
         m.state = count as u8 % 6;
+        (m.recording.count, m.playback.sent) = (64 - count, count);
         seen.gives("state", library::state(&m), m.state, &[("scm_master", &["state"])]);
+        seen.gives("state", library::value::state(m.state), m.state, &[]);
         seen.gives("step count", library::step_count(&m), count, &[("scm_sequence", &["count"])]);
+        seen.gives("step count", library::value::step_count(&m.sequence), count, &[]);
         for i in 0..65 {
             let wanted = if i < count { (0, m.sequence.steps[i]) } else { (3, NO_STEP) };
             let fields = &["slot", "function", "state", "distance", "value", "mark"];
             seen.gives("step", library::step(&m, i), wanted, &[("scm_sequence_step", fields), ("scm_sequence", &["steps"])]);
-            let by_value = library::value::step(&m, i);
+            let by_value = library::value::step(&m.sequence, i);
             seen.gives("step", (by_value.number, by_value.step), wanted, &[("scm_step_result", &["number", "step"])]);
+            step_readers(seen, &m, i);
+        }
+        for state in 0..6 {
+            progress(seen, &Master { state, ..m });
         }
         for slot in 0..9 {
             slot_readers(seen, &m, slot);
@@ -98,8 +107,33 @@ fn slot_readers(seen: &mut Seen, m: &Master, slot: usize) {
     let view = &["used", "name", "master_name", "version_length", "version", "configuration_length", "configuration"];
     let record = &["used", "name", "master", "version", "configuration"];
     seen.gives("client", library::client(m, slot), (number, wanted), &[("scm_client_view", view), ("scm_client_record", record)]);
-    let r = library::value::client(m, slot);
+    let r = library::value::client(&m.sequence, slot);
     seen.gives("client", (r.number, r.client), (number, c), &[("scm_client_result", &["number", "client"]), ("scm_sequence", &["clients"])]);
+}
+
+/// Steps that are taken, and commands that have left.
+fn step_readers(seen: &mut Seen, m: &Master, i: usize) {
+    let wanted = if i < m.recording.count { (0, m.recording.steps[i]) } else { (3, NO_TAKEN) };
+    let rows: Rows = &[("scm_taken_step", &["step", "tan", "status"]), ("scm_recording", &["count", "steps"])];
+    seen.gives("taken", library::taken(m, i), wanted, rows);
+    let by_value = library::value::taken(&m.recording, i);
+    seen.gives("taken", (by_value.number, by_value.taken), wanted, &[("scm_taken_result", &["number", "taken"])]);
+    let wanted = if i < m.playback.sent { (0, m.playback.commands[i]) } else { (3, NO_SENT) };
+    let rows: Rows = &[("scm_sent_step", &["tan", "answer", "left"]), ("scm_playback", &["sent", "commands"])];
+    seen.gives("sent", library::sent(m, i), wanted, rows);
+    let by_value = library::value::sent(&m.playback, i);
+    seen.gives("sent", (by_value.number, by_value.sent), wanted, &[("scm_sent_result", &["number", "sent"])]);
+}
+
+fn progress(seen: &mut Seen, m: &Master) {
+    let (recording, playback) = (&m.recording, &m.playback);
+    let (ticks, distance, count) = match m.state {
+        4 => (playback.ticks, playback.distance, playback.sent),
+        _ => (recording.ticks, recording.distance, recording.count),
+    };
+    let wanted = ProgressView { ticks, distance, count };
+    seen.gives("progress", library::progress(m), wanted, &[("scm_progress_view", &["ticks", "distance", "count"])]);
+    seen.gives("progress", library::value::progress(m.state, recording, playback), wanted, &[]);
 }
 
 /// Wanted, the last report, and a slot that is emptied.
@@ -303,8 +337,33 @@ fn end_of_recording(seen: &mut Seen, random: &mut Random) {
     }
 }
 
-/// A start looks at what the sequence keeps of a client and at the client that is there now.
-fn verification(seen: &mut Seen, random: &mut Random) {
+/// The check that does not hold: its number, slot and step, in every state.
+fn verified(seen: &mut Seen, m: &Master, number: u8, slot: usize, step: usize) {
+    for state in 0..6 {
+        let m = Master { state, ..*m };
+        let fields = &["slot", "step"];
+        seen.gives("verification", library::verify(&m), (number, CheckView { slot, step }), &[("scm_check_view", fields)]);
+        let given = library::value::verify(&m);
+        let fields = &["number", "slot", "step"];
+        seen.gives("verification", (given.number, given.slot, given.step), (number, slot, step), &[("scm_check_result", fields)]);
+    }
+}
+
+/// No step, and each of the 64 with a function that its client lacks.
+fn steps_verified(seen: &mut Seen, m: &Master) {
+    let mut empty = *m;
+    empty.sequence.count = 0;
+    verified(seen, &empty, 7, 0, 0);
+    for (i, slot) in (0..64).map(|i| (i, i % 8)) {
+        let mut other = *m;
+        other.sequence.steps[i].function = FUNCTION ^ 1;
+        other.slots[slot].profile.trigger[usize::from(FUNCTION ^ 1)] = 0;
+        verified(seen, &other, 11, slot, i);
+    }
+}
+
+/// Ready, with a client in every slot and a sequence of 64 steps, of one slot after the other: every check of a start holds.
+fn startable(random: &mut Random) -> Master {
     let mut m = any_in(random, 1);
     m.sequence.count = 64;
     for slot in 0..8 {
@@ -319,7 +378,15 @@ fn verification(seen: &mut Seen, random: &mut Random) {
     for (i, step) in m.sequence.steps.iter_mut().enumerate() {
         (step.slot, step.function, step.state) = ((i % 8) as u8, FUNCTION, STATE);
     }
+    m
+}
+
+/// A start looks at what the sequence keeps of a client and at the client that is there now.
+fn verification(seen: &mut Seen, random: &mut Random) {
+    let m = startable(random);
     event(seen, "start", &m, &library::start(&m), &Master { state: 4, playback: NO_PLAYBACK, ..m });
+    verified(seen, &m, 0, 0, 0);
+    steps_verified(seen, &m);
     for slot in 0..8 {
         let edits: [(u8, fn(&mut Slot, &mut Client)); 10] = [
             (8, |slot, _| slot.wanted = 0),
@@ -339,6 +406,8 @@ fn verification(seen: &mut Seen, random: &mut Random) {
             let given = library::start(&other);
             seen.gives("start", given.number, number, &[]);
             seen.changes("start refused", &other, &given.master, &other);
+            // The first step of a slot is that of its number.
+            verified(seen, &other, number, slot, if number == 11 { slot } else { 0 });
         }
     }
 }

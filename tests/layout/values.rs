@@ -109,6 +109,7 @@ fn objects(seen: &mut Seen) {
     wanted.list.copy_from_slice(&list);
     let fields = &["kind", "next", "standard", "master", "mask", "name", "picture", "n", "m", "count", "version", "configuration", "list"];
     seen.gives("base", library::object_at(&pool, 0), wanted, &[("scm_object", fields)]);
+    written(seen, "base", &wanted, &first);
 
     let (place, next) = (first.len(), first.len() + second.len());
     let mut wanted = Object { kind: 1, place, next, number: 0x0201, name: 0x7372, picture: 0x7574, count: 64, ..NO_OBJECT };
@@ -118,10 +119,27 @@ fn objects(seen: &mut Seen) {
     wanted.list[..64].copy_from_slice(&list[..64]);
     let fields = &["place", "number", "function", "trigger", "attribute", "minimum", "maximum", "offset", "scale", "decimals", "unit"];
     seen.gives("function", library::object_at(&pool, place), wanted, &[("scm_object", fields)]);
+    written(seen, "function", &wanted, &second);
 
     let (place, next) = (next, pool.len());
     let wanted = Object { kind: 2, place, next, number: 0x8382, state: 63, name: 0x8584, picture: 0x8786, ..NO_OBJECT };
     seen.gives("state", library::object_at(&pool, place), wanted, &[("scm_object", &["state"])]);
+    written(seen, "state", &wanted, &state);
+}
+
+/// The same fields are read of it when it is written, by the wrapper and by value.
+fn written(seen: &mut Seen, what: &str, object: &Object, bytes: &[u8]) {
+    let place = 0x0107;
+    let mut wanted = vec![0xEE; place];
+    wanted.extend(bytes);
+    let (mut out, mut by_value) = (vec![0xEE; wanted.len()], vec![0xEE; wanted.len()]);
+    seen.gives(what, library::object_write(object, place, &mut out), (0, wanted.len()), &[]);
+    seen.gives(what, &out, &wanted, &[]);
+    let placed = library::value::object_write(object, place, &mut by_value);
+    seen.gives(what, (placed.number, placed.next), (0, wanted.len()), &[("scm_placed", &["next"])]);
+    seen.gives(what, &by_value, &wanted, &[]);
+    let short = library::value::object_write(object, place + 1, &mut by_value);
+    seen.gives(what, (short.number, short.next), (1, place + 1), &[("scm_placed", &["number"])]);
 }
 
 /// What is kept of a pool, as the pool was made.

@@ -10,8 +10,8 @@ use std::fmt::Debug;
 use std::rc::Rc;
 
 /// Function 5 counts ticks, function 6 millimetres; both have state 2.
-const TIME: u8 = 5;
-const DISTANCE: u8 = 6;
+pub const TIME: u8 = 5;
+pub const DISTANCE: u8 = 6;
 
 const START: [u8; 8] = [0x32, 0x05, 0x42, 0x00, 0xFF, 0xFF, 0xFF, 0xFF];
 const FINISH_240: [u8; 8] = [0x32, 0x05, 0x82, 0x00, 0xF0, 0x00, 0x00, 0x00];
@@ -30,7 +30,7 @@ pub fn all(run: &mut Run) {
     neighbours(run);
 }
 
-fn legal_pool() -> Pool {
+pub fn legal_pool() -> Pool {
     let random = &mut Random::new(14);
     let shape = Shape { functions: 2, states: 1, shortest: 1, longest: 1, unlisted: 0 };
     let mut pool = Pool::legal(random, shape, FULL);
@@ -46,13 +46,13 @@ fn pool() -> Vec<u8> {
     legal_pool().bytes()
 }
 
-fn must_be<T: PartialEq + Debug>(what: &str, given: T, meant: T) {
+pub fn must_be<T: PartialEq + Debug>(what: &str, given: T, meant: T) {
     if given != meant {
         super::fail(&format!("case, {what}: {given:02X?}, meant was {meant:02X?}"));
     }
 }
 
-fn done(run: &mut Run, event: Event) {
+pub fn done(run: &mut Run, event: Event) {
     let number = run.event(event).number;
     must_be("number", number, 0);
 }

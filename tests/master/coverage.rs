@@ -166,6 +166,17 @@ const CONTESTS: &[(&str, &[(u8, u8)])] = &[
     ("answer", &[(1, 4), (1, 3), (1, 2), (4, 3), (4, 2), (3, 2)]),
 ];
 
+/// In each state the numbers that a verification can give. A master is inactive only while every client is disabled. In playback only the reports can
+/// be others than at the start, in abort a client can be gone too.
+const VERIFIED: &[(&str, &[u8])] = &[
+    ("inactive", &[7, 8]),
+    ("ready", &[0, 7, 8, 9, 10, 11, 12]),
+    ("record", &[0, 7, 8, 9, 10, 11, 12]),
+    ("record complete", &[0, 7, 8, 9, 10, 11, 12]),
+    ("playback", &[0, 12]),
+    ("abort", &[0, 8, 12]),
+];
+
 /// The D.9 codes that a refused pool can have.
 const CODES: &[u8] = &[0x01, 0x02, 0x03, 0x04, 0x05, 0x06, 0x07, 0x09, 0x0A, 0x0B, 0x0C, 0xFF];
 
@@ -222,6 +233,18 @@ const FACTS: &[&str] = &[
     "tick of 65535 mm",
     "reader of a step",
     "reader past the last step",
+    "reader of a one-shot step that is taken",
+    "reader of an open step that is taken",
+    "reader of a done step that is taken",
+    "reader of a failed step that is taken",
+    "reader of a command that is not answered",
+    "reader of a command that is started",
+    "reader of a command that is done",
+    "reader of a command that left 15 ticks ago and is not answered",
+    "verified, a slot that is not the lowest of the sequence",
+    "verified, a step that is not the first",
+    "verified, several slots do not hold",
+    "verified, several steps do not hold",
 ];
 
 pub struct Coverage {
@@ -250,6 +273,9 @@ fn others() -> Vec<String> {
     names.extend(owned(FACTS));
     for (call, contests) in CONTESTS {
         names.extend(contests.iter().map(|(first, second)| format!("{call} {first} before {second}")));
+    }
+    for (state, numbers) in VERIFIED {
+        names.extend(numbers.iter().map(|number| format!("verified {number} in {state}")));
     }
     names.extend(CODES.iter().map(|code| format!("pool refused with {code:02X}")));
     for (call, _) in NUMBERS {
@@ -328,6 +354,22 @@ impl Coverage {
         if steps > 0 {
             self.meet("reader of a step");
         }
+    }
+
+    /// The readers of what is being recorded or played back were compared.
+    pub fn progress(&mut self, master: &Master) {
+        for name in facts::progress(master) {
+            self.meet(name);
+        }
+    }
+
+    /// The verification was compared; gives its number, if it can be none in this state.
+    pub fn verified(&mut self, master: &Master) -> Result<(), String> {
+        let (named, others) = facts::verified(master);
+        self.known(&named, &self.others)?;
+        self.meet(&named);
+        others.into_iter().for_each(|name| self.meet(name));
+        Ok(())
     }
 
     pub fn missed(&self) -> Vec<&str> {

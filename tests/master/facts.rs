@@ -202,6 +202,45 @@ fn start_applies(before: &Master) -> Vec<u8> {
     numbers
 }
 
+// What the readers met.
+
+/// Of what is being recorded or played back.
+pub fn progress(master: &Master) -> Vec<&'static str> {
+    let taken = master.recording().into_iter().flat_map(|recording| &recording.steps).map(|taken| match taken.progress {
+        Progress::OneShot => "reader of a one-shot step that is taken",
+        Progress::Open => "reader of an open step that is taken",
+        Progress::Done => "reader of a done step that is taken",
+        Progress::Failed => "reader of a failed step that is taken",
+    });
+    let ticks = ticks(master);
+    let sent = playback(master).into_iter().flat_map(|playback| &playback.commands).map(|command| match command.answered {
+        Answered::Not if ticks - command.left == 15 => "reader of a command that left 15 ticks ago and is not answered",
+        Answered::Not => "reader of a command that is not answered",
+        Answered::Started => "reader of a command that is started",
+        Answered::Done => "reader of a command that is done",
+    });
+    taken.chain(sent).collect()
+}
+
+/// The number of a verification, in which state, and what else is so.
+pub fn verified(master: &Master) -> (String, Vec<&'static str>) {
+    let failed = match master.verify() {
+        Ok(()) => return (format!("verified 0 in {}", state(&master.state)), Vec::new()),
+        Err(failed) => failed,
+    };
+    let named = format!("verified {} in {}", failed.refused.number, state(&master.state));
+    let sequence = &master.sequence;
+    let lowest = sequence.clients.keys().next() == Some(&failed.slot);
+    let slots = sequence.clients.iter().filter(|(&slot, recorded)| master.same(slot, recorded).is_err()).count();
+    let steps = sequence.steps.iter().filter(|step| master.known(step).is_err()).count();
+    let others = match failed.refused.number {
+        8..=10 => vec![(!lowest, "verified, a slot that is not the lowest of the sequence"), (slots > 1, "verified, several slots do not hold")],
+        11 => vec![(failed.step > 0, "verified, a step that is not the first"), (steps > 1, "verified, several steps do not hold")],
+        _ => Vec::new(),
+    };
+    (named, others.into_iter().filter(|(met, _)| *met).map(|(_, name)| name).collect())
+}
+
 // What an accepted event met.
 
 fn accepted(event: &Event, before: &Master, after: &Master, names: &mut Vec<String>) {

@@ -17,6 +17,7 @@ mod render;
 mod run;
 mod samples;
 mod scenario;
+mod screen;
 mod verification;
 mod waits;
 mod wild;
@@ -48,6 +49,7 @@ pub fn run(arguments: &[&str]) {
 /// The cases of 01 and so many scenarios, which must meet all that is wanted.
 fn all(run: &mut Run, count: u64, print: bool) {
     cases::all(run);
+    screen::all(run);
     scenarios(run, SEED, count);
     if print {
         run.coverage.print();

@@ -1,7 +1,7 @@
 //! The model's state as the library's struct: every field, blank cells zero; and what the readers give of it.
 
 use super::kept::Kept;
-use super::library::{self, ClientView, SlotView};
+use super::library::{self, CheckView, ClientView, ProgressView, SlotView};
 use super::model::{Client, Master, Report, State, SLOTS};
 use super::playback::{Answered, Command, Playback};
 use super::recording::{Identity, Mark, Progress, Recording, Sequence, Step, Taken};
@@ -180,7 +180,7 @@ fn playback(playback: &Playback) -> library::Playback {
     cells
 }
 
-/// What the readers must give: a number and a view; a slot above 7 and a step past the end give 3 and nothing else.
+/// What the readers must give: a number and a view; a slot above 7 and a step or a command past the end give 3 and nothing else.
 pub mod view {
     use super::*;
 
@@ -212,6 +212,39 @@ pub mod view {
         match master.sequence.clients.get(&slot) {
             Some(identity) => (0, flat(&super::client(identity))),
             None => (if slot < SLOTS { 0 } else { 3 }, flat(&library::NO_CLIENT)),
+        }
+    }
+
+    /// In playback its ticks and millimetres so far and the commands sent; in record and record complete those of the recording and the steps taken;
+    /// in any other state there is neither.
+    pub fn progress(master: &Master) -> ProgressView {
+        let (ticks, distance, count) = match &master.state {
+            State::Playback(it) => (it.ticks, it.millimetres, it.commands.len()),
+            State::Record(it) | State::RecordComplete(it) => (it.ticks, it.millimetres, it.steps.len()),
+            State::Inactive | State::Ready | State::Abort => (0, 0, 0),
+        };
+        ProgressView { ticks, distance, count }
+    }
+
+    pub fn taken(master: &Master, place: usize) -> (u8, library::Taken) {
+        match master.recording().and_then(|recording| recording.steps.get(place)) {
+            None => (3, library::NO_TAKEN),
+            Some(it) => (0, super::taken(it)),
+        }
+    }
+
+    pub fn sent(master: &Master, place: usize) -> (u8, library::Sent) {
+        match &master.state {
+            State::Playback(it) if place < it.commands.len() => (0, super::sent(&it.commands[place])),
+            _ => (3, library::NO_SENT),
+        }
+    }
+
+    /// The number of the first check that does not hold, its slot and its step.
+    pub fn verify(master: &Master) -> (u8, CheckView) {
+        match master.verify() {
+            Ok(()) => (0, CheckView { slot: 0, step: 0 }),
+            Err(failed) => (failed.refused.number, CheckView { slot: failed.slot, step: failed.step }),
         }
     }
 

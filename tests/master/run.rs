@@ -13,8 +13,9 @@ use std::collections::VecDeque;
 pub const BUFFER: usize = 640;
 /// So many of the last events are printed with a difference.
 const REMEMBERED: usize = 16;
-/// The readers are compared after one in so many events.
+/// The readers are compared after one in so many events, the verification after one in so many.
 const READERS: usize = 150;
+const VERIFIED: usize = 3;
 /// The call by value is compared with its wrapper at one in so many events.
 const BY_VALUE: usize = 8;
 
@@ -72,6 +73,12 @@ impl Run {
         *self.library = library::new();
         self.compare_states();
         self.compare_readers();
+        self.compare_verification();
+    }
+
+    /// The library's master.
+    pub fn library(&self) -> &library::Master {
+        &self.library
     }
 
     pub fn event(&mut self, event: Event) -> Given {
@@ -96,15 +103,16 @@ impl Run {
         if self.random.once_in(BY_VALUE) {
             self.compare_by_value(&event, &outcome, before.clone());
         }
+        if let Event::Start = event {
+            self.compare_start(given.number);
+        }
         let broken = self.promises.check(&event, &self.library, &outcome, &before, &self.lent);
         if let Some(promise) = broken {
             self.stop(&format!("promise broken: {promise}"));
         }
         *self.library = outcome.master;
         self.compare_states();
-        if self.random.once_in(READERS) {
-            self.compare_readers();
-        }
+        self.sample_readers();
         if let Err(unknown) = self.coverage.event(&event, &model_before, &self.model, &wanted) {
             self.stop(&format!("no rule allows: {unknown}"));
         }
@@ -145,6 +153,15 @@ impl Run {
         }
     }
 
+    fn sample_readers(&mut self) {
+        if self.random.once_in(READERS) {
+            self.compare_readers();
+        }
+        if self.random.once_in(VERIFIED) {
+            self.compare_verification();
+        }
+    }
+
     fn compare_readers(&mut self) {
         let (library, model) = (&*self.library, &self.model);
         let beyond = [8, 9, 255, 256, 257, 1 << 32, usize::MAX];
@@ -163,6 +180,35 @@ impl Run {
             self.compare(&format!("reader of step {place}"), library::step(library, place), view::step(model, place));
         }
         self.coverage.readers(count);
+        self.compare_progress();
+    }
+
+    /// The readers of what is being recorded or played back.
+    fn compare_progress(&mut self) {
+        let (library, model) = (&*self.library, &self.model);
+        let progress = view::progress(model);
+        self.compare("reader of the progress", library::progress(library), progress);
+        for place in (0..=progress.count).chain([63, 64, 65, 255, 256, 1 << 32, usize::MAX]) {
+            self.compare(&format!("reader of taken step {place}"), library::taken(library, place), view::taken(model, place));
+            self.compare(&format!("reader of sent command {place}"), library::sent(library, place), view::sent(model, place));
+        }
+        self.coverage.progress(&self.model);
+    }
+
+    /// The first check that does not hold, in any state.
+    pub fn compare_verification(&mut self) {
+        let wanted = view::verify(&self.model);
+        self.compare("verification", library::verify(&self.library), wanted);
+        if let Err(unknown) = self.coverage.verified(&self.model) {
+            self.stop(&format!("no rule allows: {unknown}"));
+        }
+    }
+
+    /// "Start, from ready": what a verification just before it says. In any other state it gives 2.
+    fn compare_start(&self, number: u8) {
+        let verified = library::verify(&self.library).0;
+        let ready = library::state(&self.library) == 1;
+        self.compare("start after a verification", number, if ready { verified } else { 2 });
     }
 
     pub fn stop(&self, why: &str) -> ! {

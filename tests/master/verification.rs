@@ -5,23 +5,39 @@ use super::model::{self, Client, Master, Outcome, Refused, Report, State};
 use super::playback::Playback;
 use super::recording::{Identity, Step};
 
+/// A check that does not hold: by which number, of which slot and of which step it is; both are 0 where it is of none.
+pub struct Failed {
+    pub refused: Refused,
+    pub slot: usize,
+    pub step: usize,
+}
+
 impl Master {
     pub fn start(&mut self) -> Outcome {
         self.ready()?;
-        if self.sequence.steps.is_empty() {
-            return model::refuse(7);
-        }
-        for (&slot, recorded) in &self.sequence.clients {
-            self.same(slot, recorded)?;
-        }
-        for step in &self.sequence.steps {
-            self.known(step)?;
-        }
-        for &slot in self.sequence.clients.keys() {
-            self.reports_ready(slot)?;
+        if let Err(failed) = self.verify() {
+            return Err(failed.refused);
         }
         self.state = State::Playback(Playback::default());
         model::done()
+    }
+
+    /// The first check that does not hold, whatever the state.
+    pub fn verify(&self) -> Result<(), Failed> {
+        let at = |slot: usize, step: usize| move |refused: Refused| Failed { refused, slot, step };
+        if self.sequence.steps.is_empty() {
+            return model::refuse(7).map_err(at(0, 0));
+        }
+        for (&slot, recorded) in &self.sequence.clients {
+            self.same(slot, recorded).map_err(at(slot, 0))?;
+        }
+        for (place, step) in self.sequence.steps.iter().enumerate() {
+            self.known(step).map_err(at(step.slot, place))?;
+        }
+        for &slot in self.sequence.clients.keys() {
+            self.reports_ready(slot).map_err(at(slot, 0))?;
+        }
+        Ok(())
     }
 
     /// "8, 9 and 10 before the next slot"

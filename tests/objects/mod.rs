@@ -1,11 +1,13 @@
-//! The library's reading of objects and its rewriting of pools against a model that is written from document 01 and tables A.1 to A.3 alone, on legal
-//! and on damaged pools.
+//! The library's reading and writing of objects and its rewriting of pools against a model that is written from document 01 and tables A.1 to A.3
+//! alone, on legal and on damaged pools and objects.
 
 mod model;
+mod writing;
 
 use crate::library;
 use crate::pool::generate::{Pool, Random, Shape, FULL};
 use crate::pool::{faults, model as verdict};
+use writing::Writing;
 
 const COUNT: u64 = 1_000;
 const SEED: u64 = 11_783;
@@ -13,7 +15,8 @@ const SEED: u64 = 11_783;
 /// At least COUNT pools by chance, made from SEED.
 pub fn run(arguments: &[&str]) {
     let (count, seed) = crate::count_and_seed(arguments, COUNT, SEED);
-    let mut run = Run { random: Random::new(seed), pools: 0, accepted: 0, objects: [0; 4] };
+    let mut run = Run { random: Random::new(seed), pools: 0, accepted: 0, objects: [0; 4], writing: Writing::new(seed) };
+    run.writing.every_edge();
     run.every_cut();
     run.every_size();
     run.every_edit();
@@ -31,7 +34,11 @@ struct Run {
     accepted: u64,
     /// Bases, functions and states read, and refusals.
     objects: [u64; 4],
+    writing: Writing,
 }
+
+/// One in so many objects that were read is written, and one in so many pools is written again object by object.
+const WRITTEN: u64 = 16;
 
 impl Run {
     /// Small pools cut at every place.
@@ -105,6 +112,12 @@ impl Run {
                 fail(&format!("{name}, pool {}, place {place}: the library gives {given:?}, the model {wanted:?}", self.pools));
             }
             self.objects[usize::from(wanted.kind.min(3))] += 1;
+            if wanted.kind < 3 && self.objects.iter().sum::<u64>() % WRITTEN == 0 {
+                self.writing.by_chance(&given);
+            }
+        }
+        if self.pools % WRITTEN == 0 {
+            copy(name, pool);
         }
         let verdict = verdict::check(pool);
         let accepted = verdict.0 == 0;
@@ -156,6 +169,7 @@ impl Run {
     }
 
     fn report(&self) {
+        self.writing.report();
         let [bases, functions, states, refusals] = self.objects;
         println!("read: {bases} bases, {functions} functions, {states} states, {refusals} refusals");
         println!("accepted: {} pools", self.accepted);
@@ -163,5 +177,25 @@ impl Run {
             fail("the run shows too little");
         }
         println!("objects: {} pools, 0 differences", self.pools);
+    }
+}
+
+/// Object after object, each read from the pool and written behind the one before: the pool's own bytes, as far as it can be read.
+fn copy(name: &str, pool: &[u8]) {
+    let mut out = vec![0xA5; pool.len()];
+    let mut place = 0;
+    loop {
+        let object = library::object_at(pool, place);
+        if object.next == place {
+            break;
+        }
+        let written = library::object_write(&object, place, &mut out);
+        if written != (0, object.next) {
+            fail(&format!("{name}, place {place}: what was read is written with {written:?}"));
+        }
+        place = object.next;
+    }
+    if out[..place] != pool[..place] || out[place..].iter().any(|&byte| byte != 0xA5) {
+        fail(&format!("{name}: written again object by object it is another pool"));
     }
 }

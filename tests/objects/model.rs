@@ -1,10 +1,10 @@
-//! An object at a place, written from document 01, section "The pool", and from tables A.1 to A.3 of ISO 11783-14. It
-//! shares nothing with the library. Places in tables count from 1.
+//! An object at a place, read and written, from document 01, section "The pool", and from tables A.1 to A.3 of ISO
+//! 11783-14. It shares nothing with the library. Places in tables count from 1.
 
 use crate::library::Object;
 
 /// No object: its place, which is also the next, and all else 0.
-fn refused(place: usize) -> Object {
+pub fn refused(place: usize) -> Object {
     Object {
         kind: 255,
         place,
@@ -110,9 +110,12 @@ fn base(rest: &[u8], blank: Object) -> Option<Object> {
         list: numbers(rest, 28 + usize::from(n) + usize::from(m), count),
         ..blank
     };
-    // "base number 0", "version 0 to 2; O at least 1", "names and pictures not FFFF"
-    let right = read.number == 0 && read.standard <= 2 && count >= 1 && read.name != 0xFFFF && read.picture != 0xFFFF;
-    Some(read).filter(|_| right)
+    Some(read).filter(base_right)
+}
+
+/// "base number 0", "version 0 to 2; O at least 1", "names and pictures not FFFF"
+fn base_right(it: &Object) -> bool {
+    it.number == 0 && it.standard <= 2 && it.count >= 1 && it.name != 0xFFFF && it.picture != 0xFFFF
 }
 
 /// Table A.2. "function 30 + 2·S (S states, at most 64)".
@@ -144,14 +147,17 @@ fn function(rest: &[u8], blank: Object) -> Option<Object> {
         list: numbers(rest, 31, count),
         ..blank
     };
-    // "others 1 to 65534", "preferred trigger 1, 2 or 255", "S at most 64", "names and pictures not FFFF"
-    let right = (1..=65_534).contains(&read.number)
-        && [1, 2, 255].contains(&read.trigger)
-        && count <= 64
-        && read.name != 0xFFFF
-        && read.picture != 0xFFFF
-        && style_right(&read);
-    Some(read).filter(|_| right)
+    Some(read).filter(function_right)
+}
+
+/// "others 1 to 65534", "preferred trigger 1, 2 or 255", "S at most 64", "names and pictures not FFFF"
+fn function_right(it: &Object) -> bool {
+    (1..=65_534).contains(&it.number)
+        && [1, 2, 255].contains(&it.trigger)
+        && it.count <= 64
+        && it.name != 0xFFFF
+        && it.picture != 0xFFFF
+        && style_right(it)
 }
 
 /// "attribute 0 to 2"
@@ -185,7 +191,82 @@ fn state(rest: &[u8], blank: Object) -> Option<Object> {
         picture: pair(rest, 7),
         ..blank
     };
-    // "others 1 to 65534", "state ID at most 63", "names and pictures not FFFF"
-    let right = (1..=65_534).contains(&read.number) && read.state <= 63 && read.name != 0xFFFF && read.picture != 0xFFFF;
-    Some(read).filter(|_| right)
+    Some(read).filter(state_right)
+}
+
+/// "others 1 to 65534", "state ID at most 63", "names and pictures not FFFF"
+fn state_right(it: &Object) -> bool {
+    (1..=65_534).contains(&it.number) && it.state <= 63 && it.name != 0xFFFF && it.picture != 0xFFFF
+}
+
+/// Writes an object at a place of the lent bytes: the number, and the place after it. "Every number but 0 leaves .. all lent
+/// memory unchanged. Where several apply: 1, 4".
+pub fn write(object: &Object, place: usize, out: &mut [u8]) -> (u8, usize) {
+    let size = size(object);
+    if out.len() < place || out.len() - place < size {
+        return (1, place);
+    }
+    if !legal(object) {
+        return (4, place);
+    }
+    let bytes = bytes(object);
+    assert_eq!(bytes.len(), size);
+    out[place..place + size].copy_from_slice(&bytes);
+    (0, place + size)
+}
+
+/// "base 27 + N + M + 2·O bytes (labels N and M, O functions), function 30 + 2·S (S states, at most 64), state 8"
+pub fn size(object: &Object) -> usize {
+    let [n, m, count] = [object.n, object.m, object.count].map(usize::from);
+    match object.kind {
+        0 => 27 + n + m + 2 * count,
+        1 => 30 + 2 * count,
+        2 => 8,
+        _ => 0,
+    }
+}
+
+/// "type not 0, 1 or 2", "N of 0 or above 63", "then M so", "a field out of its range"; and the cells that an object does not use
+/// are 0: those after each label, which a base alone has, and after the list, which a state lacks.
+fn legal(it: &Object) -> bool {
+    let unused = |version: u8, configuration: u8, listed: u8| {
+        it.version.iter().skip(version.into()).chain(it.configuration.iter().skip(configuration.into())).all(|&cell| cell == 0)
+            && it.list.iter().skip(listed.into()).all(|&cell| cell == 0)
+    };
+    match it.kind {
+        0 => (1..=63).contains(&it.n) && (1..=63).contains(&it.m) && base_right(it) && unused(it.n, it.m, it.count),
+        1 => function_right(it) && unused(0, 0, it.count),
+        2 => state_right(it) && unused(0, 0, 0),
+        _ => false,
+    }
+}
+
+/// Tables A.1 to A.3, field after field.
+fn bytes(it: &Object) -> Vec<u8> {
+    let listed = || it.list.iter().take(it.count.into()).flat_map(|number| number.to_le_bytes());
+    let mut bytes = it.number.to_le_bytes().to_vec();
+    bytes.push(it.kind);
+    match it.kind {
+        0 => {
+            bytes.push(it.standard);
+            bytes.extend([it.master.to_le_bytes(), it.mask.to_le_bytes()].concat());
+            bytes.extend([it.name.to_le_bytes(), it.picture.to_le_bytes()].concat());
+            bytes.extend([it.n, it.m, it.count]);
+            bytes.extend(it.version.iter().take(it.n.into()).chain(it.configuration.iter().take(it.m.into())));
+            bytes.extend(listed());
+        }
+        1 => {
+            bytes.extend([it.function, it.trigger, it.attribute]);
+            bytes.extend([it.minimum, it.maximum, it.offset, it.scale].map(u32::to_le_bytes).concat());
+            bytes.push(it.decimals);
+            bytes.extend([it.unit, it.name, it.picture].map(u16::to_le_bytes).concat());
+            bytes.push(it.count);
+            bytes.extend(listed());
+        }
+        _ => {
+            bytes.push(it.state);
+            bytes.extend([it.name.to_le_bytes(), it.picture.to_le_bytes()].concat());
+        }
+    }
+    bytes
 }

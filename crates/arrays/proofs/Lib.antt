@@ -3,3 +3,4 @@ pub mod Fill
 pub mod Most
 pub mod Pad
 pub mod Every
+pub mod First

@@ -8,25 +8,33 @@ use lib.ListN.{length}
 use Rattle.octets.specs.Label.{blank}
 use Rattle.pool.specs.{declared.Verdict.Verdict, Pool.verdictOf}
 use Rattle.profile.specs.{declared.Profile.Profile, Profile.profileOf}
-use Rattle.objects.specs.Objects.{foundAt}
-use Rattle.flat_object.specs.{declared.FlatObject.FlatObject, Flat.flatObject}
+use Rattle.objects.specs.Objects.{foundAt, writeAnswer, writeOut}
+use Rattle.objects.specs.declared.Written as placed
+use Rattle.flat_object.specs.{declared.FlatObject.FlatObject, Flat.flatObject, Flat.objectFrom}
 use Rattle.rewrite.specs.{declared.Rewritten.Rewritten, Rewrite.rewriteAnswer, Rewrite.rewriteOut}
 use Rattle.message.specs.{declared.Written.Written, Messages.writtenOf, Messages.writtenOver}
 use Rattle.message.specs.declared.Message.the-variants.{Transfer}
 use Rattle.flat.specs.{declared.Flat.Flat, declared.FlatReading.FlatReading, Flat.messageFrom, Flat.readingOf}
 use Rattle.shown.specs.{declared.Shown.Shown, Value.shownOf}
-use Rattle.sequence.specs.Sequence.{lengthOf}
+use Rattle.sequence.specs.{declared.Sequence.Sequence, Sequence.lengthOf}
+use Rattle.recording.specs.declared.Recording.{Recording}
+use Rattle.playback.specs.declared.{Playback.Playback, named.Named.Named}
 use Rattle.master.specs.{declared.Master.Master, declared.Outcome.Outcome, States.newMaster}
-use Rattle.master.specs.declared.readers.{SlotView.SlotView, StepView.StepView, ClientView.ClientView}
-use Rattle.master.specs.Readers.{stateOf, slotView, stepView, clientView}
+use Rattle.master.specs.declared.readers.{SlotView.SlotView, StepView.StepView, ClientView.ClientView, Progress.Progress, TakenView.TakenView, SentView.SentView}
+use Rattle.master.specs.Readers.{stateOf, slotView, stepView, clientView, verifyView, progressOf, takenView, sentView}
 use Rattle.events.specs.Events.{Event, on, off, «record», stop, cancel, start, abort, attach, enable, disable, report, lost, indication, clientAbort, tick, answer}
 use Rattle.events.specs.Events.{apply, lentAfter}
+use Rattle.scm.specs.Version.{version}
 
 -- a call and its inputs; the bytes lent to write in come last
 pub data Exported : Type 0 where
-  -- scm_pool_check, scm_profile_of: a pool. scm_object_at: a pool, a place in it. scm_pool_rewrite: a pool, lent bytes
+  -- scm_version
+  libraryVersion : Exported
+  -- scm_pool_check, scm_profile_of: a pool. scm_object_at: a pool, a place in it. scm_write_object: an object, a place, lent bytes. scm_pool_rewrite: a
+  -- pool, lent bytes
   poolCheck poolKept : List ℕ → Exported
   objectAt : List ℕ → ℕ → Exported
+  writeObject : FlatObject → ℕ → List ℕ → Exported
   poolRewrite : List ℕ → List ℕ → Exported
   -- scm_read: the side that sent it, a message. scm_write: a message, lent bytes. scm_write_transfer: a pool, lent bytes
   readMessage : ℕ → List ℕ → Exported
@@ -38,15 +46,24 @@ pub data Exported : Type 0 where
   -- scm_master_new, and each event
   made : Exported
   event : Master → Event → Exported
-  -- scm_master_state, scm_master_step_count; scm_master_slot, scm_master_step, scm_master_client: the number of one
-  readState readStepCount : Master → Exported
-  readSlot readStep readClient : Master → ℕ → Exported
+  -- the readers, each with the part of the master that it is handed: scm_master_state; scm_master_slot: the number of one; scm_master_step_count;
+  -- scm_master_step and scm_master_client: the number of one; scm_master_verify; scm_master_progress; scm_master_taken and scm_master_sent: the number of one
+  readState : ℕ → Exported
+  readSlot : Master → ℕ → Exported
+  readStepCount : Sequence → Exported
+  readStep readClient : Sequence → ℕ → Exported
+  readVerify : Master → Exported
+  readProgress : ℕ → Recording → Playback → Exported
+  readTaken : Recording → ℕ → Exported
+  readSent : Playback → ℕ → Exported
 
 -- what it gives back
 abbrev pub Result : Exported → Type 0
+Result libraryVersion = ℕ
 Result (poolCheck bytes) = Verdict
 Result (poolKept bytes) = Profile
 Result (objectAt bytes place) = FlatObject
+Result (writeObject object place out) = placed.Written
 Result (poolRewrite bytes out) = Rewritten
 Result (readMessage side bytes) = FlatReading
 Result (writeMessage message out) = Written
@@ -55,17 +72,23 @@ Result (show value offset scale) = Shown
 Result (showBits value offset scale) = Shown
 Result made = Master
 Result (event m e) = Outcome
-Result (readState m) = ℕ
-Result (readStepCount m) = ℕ
+Result (readState state) = ℕ
 Result (readSlot m i) = SlotView
-Result (readStep m i) = StepView
-Result (readClient m i) = ClientView
+Result (readStepCount q) = ℕ
+Result (readStep q i) = StepView
+Result (readClient q i) = ClientView
+Result (readVerify m) = Named
+Result (readProgress state r p) = Progress
+Result (readTaken r i) = TakenView
+Result (readSent p i) = SentView
 
 -- by the definitions
 abbrev pub given : (c : Exported) → Result c
+given libraryVersion = version
 given (poolCheck bytes) = verdictOf bytes
 given (poolKept bytes) = profileOf bytes
 given (objectAt bytes place) = flatObject place (foundAt bytes place)
+given (writeObject object place out) = writeAnswer (objectFrom object) out place
 given (poolRewrite bytes out) = rewriteAnswer bytes out
 given (readMessage side bytes) = readingOf side bytes
 given (writeMessage message out) = writtenOf (messageFrom message) (message .label) [] (length out)
@@ -74,17 +97,23 @@ given (show value offset scale) = shownOf value offset scale
 given (showBits value offset scale) = shownOf value offset (ofBits binary32 scale)
 given made = newMaster
 given (event m e) = apply m e
-given (readState m) = stateOf m
-given (readStepCount m) = lengthOf (m .sequence)
+given (readState state) = stateOf state
 given (readSlot m i) = slotView m i
-given (readStep m i) = stepView m i
-given (readClient m i) = clientView m i
+given (readStepCount q) = lengthOf q
+given (readStep q i) = stepView q i
+given (readClient q i) = clientView q i
+given (readVerify m) = verifyView m
+given (readProgress state r p) = progressOf state r p
+given (readTaken r i) = takenView r i
+given (readSent p i) = sentView p i
 
 -- the lent bytes after it, by the definitions; none where it is lent none
 abbrev pub lentGiven : Exported → List ℕ
+lentGiven libraryVersion = []
 lentGiven (poolCheck bytes) = []
 lentGiven (poolKept bytes) = []
 lentGiven (objectAt bytes place) = []
+lentGiven (writeObject object place out) = writeOut (objectFrom object) out place
 lentGiven (poolRewrite bytes out) = rewriteOut bytes out
 lentGiven (readMessage side bytes) = []
 lentGiven (writeMessage message out) = writtenOver (messageFrom message) (message .label) [] out
@@ -108,11 +137,15 @@ lentGiven (event m (indication slot msg out)) = lentAfter m (indication slot msg
 lentGiven (event m (clientAbort slot msg)) = []
 lentGiven (event m (tick mm out)) = lentAfter m (tick mm out)
 lentGiven (event m (answer slot msg out)) = lentAfter m (answer slot msg out)
-lentGiven (readState m) = []
-lentGiven (readStepCount m) = []
+lentGiven (readState state) = []
 lentGiven (readSlot m i) = []
-lentGiven (readStep m i) = []
-lentGiven (readClient m i) = []
+lentGiven (readStepCount q) = []
+lentGiven (readStep q i) = []
+lentGiven (readClient q i) = []
+lentGiven (readVerify m) = []
+lentGiven (readProgress state r p) = []
+lentGiven (readTaken r i) = []
+lentGiven (readSent p i) = []
 
 -- "The contract of a public call settles its result, the new state and each lent byte for all inputs, refusals too": the outcomes that it allows
 abbrev pub Allowed : (c : Exported) → Result c × List ℕ → Type 0

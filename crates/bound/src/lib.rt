@@ -2,21 +2,34 @@
 ghost use mathlib.Core.List.{[]};
 ghost use Rattle.events.specs.Events.{on, off, «record», stop, cancel, start, abort, attach, enable, disable, report, lost, indication, clientAbort, tick, answer};
 ghost use Rattle.bound.specs.Exported.{Allowed, Determined};
-ghost use Rattle.bound.specs.Exported.{poolCheck, poolKept, objectAt, poolRewrite, readMessage, writeMessage, writeTransfer, show, showBits, made, event};
-ghost use Rattle.bound.specs.Exported.{readState, readStepCount, readSlot, readStep, readClient};
+ghost use Rattle.bound.specs.Exported.{libraryVersion, poolCheck, poolKept, objectAt, writeObject, poolRewrite, readMessage, writeMessage, writeTransfer, show, showBits, made, event};
+ghost use Rattle.bound.specs.Exported.{readState, readStepCount, readSlot, readStep, readClient, readVerify, readProgress, readTaken, readSent};
 use flat::Flat;
 use flat::FlatReading;
 use flat_object::FlatObject;
 use master::Master;
 use master::Outcome;
 use master::readers::ClientView;
+use master::readers::Progress;
+use master::readers::SentView;
 use master::readers::SlotView;
 use master::readers::StepView;
+use master::readers::TakenView;
 use message::Written;
+use playback::Playback;
+use playback::named::Named;
 use pool::Verdict;
 use profile::Profile;
+use recording::Recording;
 use rewrite::Rewritten;
+use sequence::Sequence;
 use shown::Shown;
+
+pub fn version() -> u32
+    ensures { λ r. ⌜ Allowed libraryVersion (r, []) ⌝ }
+{
+    scm::scm_version()
+}
 
 pub fn pool_check(bytes: &[u8]) -> Verdict
     ensures { λ r. ⌜ Allowed (poolCheck (now (bytes .entry))) (r, []) ⌝ }
@@ -34,6 +47,12 @@ pub fn object_at(bytes: &[u8], place: usize) -> FlatObject
     ensures { λ r. ⌜ Allowed (objectAt (now (bytes .entry)) place) (r, []) ⌝ }
 {
     scm::scm_object_at(bytes, place)
+}
+
+pub fn write_object(object: FlatObject, place: usize, out: &mut [u8]) -> objects::Written
+    ensures { λ r. ⌜ Allowed (writeObject object place (now (out .entry))) (r, now (out .exit)) ⌝ }
+{
+    scm::scm_write_object(object, place, out)
 }
 
 pub fn pool_rewrite(bytes: &[u8], out: &mut [u8]) -> Rewritten
@@ -174,10 +193,10 @@ pub fn master_answer(master: Master, slot: usize, msg: &[u8], out: &mut [u8]) ->
     scm::scm_master_answer(master, slot, msg, out)
 }
 
-pub fn master_state(master: Master) -> u8
-    ensures { λ r. ⌜ Allowed (readState master) (r, []) ⌝ }
+pub fn master_state(state: u8) -> u8
+    ensures { λ r. ⌜ Allowed (readState state) (r, []) ⌝ }
 {
-    scm::scm_master_state(master)
+    scm::scm_master_state(state)
 }
 
 pub fn master_slot(master: Master, slot: usize) -> SlotView
@@ -186,22 +205,46 @@ pub fn master_slot(master: Master, slot: usize) -> SlotView
     scm::scm_master_slot(master, slot)
 }
 
-pub fn master_step_count(master: Master) -> usize
-    ensures { λ r. ⌜ Allowed (readStepCount master) (r, []) ⌝ }
+pub fn master_step_count(sequence: Sequence) -> usize
+    ensures { λ r. ⌜ Allowed (readStepCount sequence) (r, []) ⌝ }
 {
-    scm::scm_master_step_count(master)
+    scm::scm_master_step_count(sequence)
 }
 
-pub fn master_step(master: Master, i: usize) -> StepView
-    ensures { λ r. ⌜ Allowed (readStep master i) (r, []) ⌝ }
+pub fn master_step(sequence: Sequence, i: usize) -> StepView
+    ensures { λ r. ⌜ Allowed (readStep sequence i) (r, []) ⌝ }
 {
-    scm::scm_master_step(master, i)
+    scm::scm_master_step(sequence, i)
 }
 
-pub fn master_client(master: Master, slot: usize) -> ClientView
-    ensures { λ r. ⌜ Allowed (readClient master slot) (r, []) ⌝ }
+pub fn master_client(sequence: Sequence, slot: usize) -> ClientView
+    ensures { λ r. ⌜ Allowed (readClient sequence slot) (r, []) ⌝ }
 {
-    scm::scm_master_client(master, slot)
+    scm::scm_master_client(sequence, slot)
+}
+
+pub fn master_verify(master: Master) -> Named
+    ensures { λ r. ⌜ Allowed (readVerify master) (r, []) ⌝ }
+{
+    scm::scm_master_verify(master)
+}
+
+pub fn master_progress(state: u8, recording: Recording, playback: Playback) -> Progress
+    ensures { λ r. ⌜ Allowed (readProgress state recording playback) (r, []) ⌝ }
+{
+    scm::scm_master_progress(state, recording, playback)
+}
+
+pub fn master_taken(recording: Recording, i: usize) -> TakenView
+    ensures { λ r. ⌜ Allowed (readTaken recording i) (r, []) ⌝ }
+{
+    scm::scm_master_taken(recording, i)
+}
+
+pub fn master_sent(playback: Playback, i: usize) -> SentView
+    ensures { λ r. ⌜ Allowed (readSent playback i) (r, []) ⌝ }
+{
+    scm::scm_master_sent(playback, i)
 }
 
 // "Prove any two outcomes it allows equal", over every call for C; there is no exception.

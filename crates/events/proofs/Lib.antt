@@ -9,6 +9,7 @@ pub mod Examples
 pub mod Theorems
 pub mod Starts
 pub mod Playable
+pub mod Named
 pub mod Rules
 pub mod Neighbour
 pub mod Accepts

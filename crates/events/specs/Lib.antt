@@ -3,4 +3,5 @@ pub mod Examples
 pub mod Demand1
 pub mod Order
 pub mod Neighbour
+pub mod Named
 pub mod Promises

@@ -1,8 +1,10 @@
 -- An object as C has it: numbers only. "Fields are those of tables A.1 to A.3."
 use Prim.Native.Nat.{ℕ}
+use lib.Dec.{eqb}
+use Rattle.octets.specs.Pick.{pick}
 use Rattle.pool.specs.{declared.BaseHead.BaseHead, declared.FunctionHead.FunctionHead, declared.StateHead.StateHead}
 use Rattle.pool.specs.declared.Head.the-variants.{Base, Function, State}
-use Rattle.objects.specs.{declared.Kind.Kind, declared.Kind.the-variants.Of, declared.Kind.the-variants.Refused, declared.Found.Found}
+use Rattle.objects.specs.{declared.Kind.Kind, declared.Kind.the-variants.Of, declared.Kind.the-variants.Refused, declared.Object.Object, declared.Found.Found}
 use Rattle.flat_object.specs.declared.FlatObject.{FlatObject}
 
 -- the number of each case
@@ -55,3 +57,45 @@ flatKind k place f = record {
 
 abbrev pub flatObject : ℕ → Found → FlatObject
 flatObject place f = flatKind (f .object .kind) place f
+
+-- ---- and back: fields that its kind does not have are not looked at, nor are `place` and `next`
+
+abbrev pub baseFrom : FlatObject → BaseHead
+baseFrom f = record {
+  number = f .number;
+  version = f .standard;
+  master = f .master;
+  mask = f .mask;
+  name = f .name;
+  picture = f .picture;
+  n = f .n;
+  m = f .m;
+  o = f .count;
+}
+
+abbrev pub functionFrom : FlatObject → FunctionHead
+functionFrom f = record {
+  number = f .number;
+  function = f .function;
+  trigger = f .trigger;
+  attribute = f .attribute;
+  minimum = f .minimum;
+  maximum = f .maximum;
+  offset = f .offset;
+  scale = f .scale;
+  decimals = f .decimals;
+  unit = f .unit;
+  name = f .name;
+  picture = f .picture;
+  s = f .count;
+}
+
+abbrev pub stateFrom : FlatObject → StateHead
+stateFrom f = record { number = f .number; state = f .state; name = f .name; picture = f .picture }
+
+-- a number of no kind makes no object
+abbrev pub kindFrom : FlatObject → Kind
+kindFrom f = pick (eqb (f .kind) 0) (Of (Base (baseFrom f))) (pick (eqb (f .kind) 1) (Of (Function (functionFrom f))) (pick (eqb (f .kind) 2) (Of (State (stateFrom f))) (Refused 0)))
+
+abbrev pub objectFrom : FlatObject → Object
+objectFrom f = record { kind = kindFrom f; version = f .version; configuration = f .configuration; list = f .list }

@@ -1,11 +1,17 @@
 // An object of a pool as a struct of numbers, for C.
 use objects::Found;
 use objects::Kind;
+use objects::Object;
+use objects::Written;
+use pool::BaseHead;
+use pool::FunctionHead;
 use pool::Head;
+use pool::StateHead;
 ghost use mathlib.Core.Path.{_≡_};
-ghost use Rattle.objects.specs.Objects.{foundAt};
+ghost use Rattle.objects.specs.Objects.{foundAt, writeAnswer, writeOut};
 ghost use Rattle.objects.specs.declared.Kind.the-variants.{Of, Refused};
-ghost use Rattle.flat_object.specs.Flat.{flatKind, flatObject};
+ghost use Rattle.flat_object.specs.Flat.{flatKind, flatObject, baseFrom, functionFrom, stateFrom, kindFrom, objectFrom};
+ghost use Rattle.flat_object.specs.ReadBack.{ReadBack};
 
 // The kinds of an object; NONE where none can be read at the place.
 const BASE: u8 = 0;
@@ -129,11 +135,11 @@ fn head_flat(head: Head, place: usize, found: Found) -> FlatObject
     flat
 }
 
-// The object at a place of a pool.
+// The object at a place of a pool, read through a window on it.
 pub fn object_at(pool: &[u8], place: usize) -> FlatObject
     ensures { λ r. ⌜ r ≡ flatObject place (foundAt (now (pool .entry)) place) ⌝ }
 {
-    let found = objects::object_at(pool, place);
+    let found = window::next_object(pool, place);
     let object = found.object;
     let kind = object.kind;
     match kind {
@@ -141,3 +147,94 @@ pub fn object_at(pool: &[u8], place: usize) -> FlatObject
         Kind::Refused(_) => none_at(place, found),
     }
 }
+
+// ---- and back
+
+// Table A.1.
+fn base_from(flat: FlatObject) -> BaseHead
+    ensures { λ r. ⌜ r ≡ baseFrom flat ⌝ }
+{
+    BaseHead {
+        number: flat.number,
+        version: flat.standard,
+        master: flat.master,
+        mask: flat.mask,
+        name: flat.name,
+        picture: flat.picture,
+        n: flat.n,
+        m: flat.m,
+        o: flat.count,
+    }
+}
+
+// Table A.2.
+fn function_from(flat: FlatObject) -> FunctionHead
+    ensures { λ r. ⌜ r ≡ functionFrom flat ⌝ }
+{
+    FunctionHead {
+        number: flat.number,
+        function: flat.function,
+        trigger: flat.trigger,
+        attribute: flat.attribute,
+        minimum: flat.minimum,
+        maximum: flat.maximum,
+        offset: flat.offset,
+        scale: flat.scale,
+        decimals: flat.decimals,
+        unit: flat.unit,
+        name: flat.name,
+        picture: flat.picture,
+        s: flat.count,
+    }
+}
+
+// Table A.3.
+fn state_from(flat: FlatObject) -> StateHead
+    ensures { λ r. ⌜ r ≡ stateFrom flat ⌝ }
+{
+    StateHead {
+        number: flat.number,
+        state: flat.state,
+        name: flat.name,
+        picture: flat.picture,
+    }
+}
+
+fn kind_from(flat: FlatObject) -> Kind
+    ensures { λ r. ⌜ r ≡ kindFrom flat ⌝ }
+{
+    let kind = flat.kind;
+    match kind {
+        BASE => Kind::Of(Head::Base(base_from(flat))),
+        FUNCTION => Kind::Of(Head::Function(function_from(flat))),
+        STATE => Kind::Of(Head::State(state_from(flat))),
+        _ => Kind::Refused(0),
+    }
+}
+
+fn object_from(flat: FlatObject) -> Object
+    ensures { λ r. ⌜ r ≡ objectFrom flat ⌝ }
+{
+    let version = flat.version;
+    let configuration = flat.configuration;
+    let list = flat.list;
+    Object {
+        kind: kind_from(flat),
+        version,
+        configuration,
+        list,
+    }
+}
+
+// The object's bytes at a place of the lent buffer: 1 where they have no room, 4 where the object is not legal, and then nothing changes.
+pub fn write(flat: FlatObject, place: usize, out: &mut [u8]) -> Written
+    ensures { λ r. ⌜ r ≡ writeAnswer (objectFrom flat) (now (out .entry)) place ⌝ }
+    ensures { λ _. ⌜ now (out .exit) ≡ writeOut (objectFrom flat) (now (out .entry)) place ⌝ }
+{
+    objects::write_object(object_from(flat), out, place)
+}
+
+// What was written is read back: nothing is done, the contract says so.
+pub fn read_back()
+    ensures { λ _. ⌜ ReadBack ⌝ }
+{}

@@ -33,7 +33,8 @@ pub struct Found {
     pub next: usize,
 }
 
-// The number that a call gives, and the place after what it wrote.
+// The number that a call gives, and the place after what it wrote; of a refusal, the place itself.
+#[repr(C)]
 pub struct Written {
     pub number: u8,
     pub next: usize,

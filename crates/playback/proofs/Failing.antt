@@ -1,6 +1,7 @@
 -- A list of checks: the first that does not hold, and a loop that looks for it.
 use mathlib.Core.Path.{_≡_, refl, sym, ap, _∙_}
 use mathlib.Core.Bool.{Bool, true, false, not, _&&_}
+use mathlib.Core.Logic.{_⊎_, inl, inr}
 use mathlib.Core.List.{List, [], _∷_, _++_, flatMap, append-assoc}
 use Prim.Native.Nat.{ℕ, _+_, _≤_, _<_}
 use native.Mathlib.Numerals.{add-one}
@@ -10,7 +11,7 @@ use lib.ListN.{length, getD, drop, drop-of-length-le}
 use lib.Seq.{drop-cons}
 use borrow.Author.Tests.{eq-eqb, ne-eqb}
 use Rattle.octets.specs.Pick.{pick}
-use Rattle.octets.specs.Numbers.{completed, noStep, notReady}
+use Rattle.octets.specs.Numbers.{completed, noStep, notEnabled, labelDiffers, notInPool, notReady}
 use Rattle.client.specs.Clients.{readyReport}
 use Rattle.client.specs.Records.{isUsed}
 use Rattle.client.specs.declared.Client.{Client}
@@ -22,10 +23,14 @@ use Rattle.playback.specs.Pairs.{pairs}
 use Rattle.playback.specs.Verification.{Check, Rule, firstFailing, ofSequence, clientChecks, stepChecks, readyChecks, checksBy}
 use Rattle.playback.proofs.Pairs.{length-pairs, getD-pairs}
 
--- the checks' numbers are 7 to 12
+-- the checks' numbers are these, from one to another
+abbrev pub Within : ℕ → ℕ → List Check → Type 0
+Within from to [] = Unit {0}
+Within from to (c ∷ cs) = ((from ≤ c .1) × (c .1 ≤ to)) × Within from to cs
+
+-- 7 to 12
 abbrev pub Numbered : List Check → Type 0
-Numbered [] = Unit {0}
-Numbered (c ∷ cs) = ((noStep ≤ c .1) × (c .1 ≤ notReady)) × Numbered cs
+Numbered = Within noStep notReady
 
 -- what is found in the first list is found
 pub found : (a b : List Check) → (firstFailing a ≡ 0 → ⊥) → firstFailing (a ++ b) ≡ firstFailing a
@@ -41,42 +46,63 @@ passed [] b k e = refl
 passed ((true, n) ∷ a) b k e = passed a b (k .1) e
 passed ((false, n) ∷ a) b k e = absurd (omega (arith, k .0 .0))
 
-pub numbered-append : (a b : List Check) → Numbered a → Numbered b → Numbered (a ++ b)
-numbered-append [] b k l = l
-numbered-append (c ∷ a) b k l = (k .0, numbered-append a b (k .1) l)
+module _ (from to : ℕ) where
+  pub within-append : (a b : List Check) → Within from to a → Within from to b → Within from to (a ++ b)
+  within-append [] b k l = l
+  within-append (c ∷ a) b k l = (k .0, within-append a b (k .1) l)
 
-pub numbered-all : {X : Type 0} (f : X → List Check) → ((x : X) → Numbered (f x)) → (l : List X) → Numbered (flatMap f l)
-unfolding flatMap
-numbered-all f k [] = tt
-numbered-all f k (x ∷ l) = numbered-append (f x) (flatMap f l) (k x) (numbered-all f k l)
+  pub within-all : {X : Type 0} (f : X → List Check) → ((x : X) → Within from to (f x)) → (l : List X) → Within from to (flatMap f l)
+  unfolding flatMap
+  within-all f k [] = tt
+  within-all f k (x ∷ l) = within-append (f x) (flatMap f l) (k x) (within-all f k l)
 
-numbered-of : (c : ClientRecord) (l : List Check) → Numbered l → Numbered (ofSequence c l)
-unfolding pick ofSequence
-numbered-of c l k = go (isUsed c)
-  where
-    go : (b : Bool) → Numbered (pick b l [])
-    go true = k
-    go false = tt
+  within-of : (c : ClientRecord) (l : List Check) → Within from to l → Within from to (ofSequence c l)
+  unfolding pick ofSequence
+  within-of c l k = go (isUsed c)
+    where
+      go : (b : Bool) → Within from to (pick b l [])
+      go true = k
+      go false = tt
+
+  pub within-wider : noStep ≤ from → to ≤ notReady → (l : List Check) → Within from to l → Numbered l
+  within-wider a b [] k = tt
+  within-wider a b (c ∷ l) k = let h = k .0 in ((omega arith, omega arith), within-wider a b l (k .1))
+
+  -- so is the first that does not hold, if there is one
+  pub within-first : (l : List Check) → Within from to l → (firstFailing l ≡ 0) ⊎ ((from ≤ firstFailing l) × (firstFailing l ≤ to))
+  unfolding pick firstFailing
+  within-first [] k = inl refl
+  within-first ((true, n) ∷ l) k = within-first l (k .1)
+  within-first ((false, n) ∷ l) k = inr (k .0)
+
+pub client-within : (agree : Rule) (x : Client × ClientRecord) → Within notEnabled labelDiffers (clientChecks agree x)
+unfolding clientChecks
+client-within agree x = within-of notEnabled labelDiffers (x .1) _ ((omega arith, omega arith), ((omega arith, omega arith), ((omega arith, omega arith), tt)))
+
+pub step-within : (slots : List Client) (s : Step) → Within notInPool notInPool (stepChecks slots s)
+unfolding stepChecks
+step-within slots s = ((omega arith, omega arith), tt)
+
+pub ready-within : (x : Client × ClientRecord) → Within notReady notReady (readyChecks x)
+unfolding readyChecks
+ready-within x = within-of notReady notReady (x .1) _ ((omega arith, omega arith), tt)
 
 pub client-numbered : (agree : Rule) (x : Client × ClientRecord) → Numbered (clientChecks agree x)
-unfolding clientChecks
-client-numbered agree x = numbered-of (x .1) _ ((omega arith, omega arith), ((omega arith, omega arith), ((omega arith, omega arith), tt)))
+client-numbered agree x = within-wider notEnabled labelDiffers (omega arith) (omega arith) (clientChecks agree x) (client-within agree x)
 
 pub step-numbered : (slots : List Client) (s : Step) → Numbered (stepChecks slots s)
-unfolding stepChecks
-step-numbered slots s = ((omega arith, omega arith), tt)
+step-numbered slots s = within-wider notInPool notInPool (omega arith) (omega arith) (stepChecks slots s) (step-within slots s)
 
 pub ready-numbered : (x : Client × ClientRecord) → Numbered (readyChecks x)
-unfolding readyChecks
-ready-numbered x = numbered-of (x .1) _ ((omega arith, omega arith), tt)
+ready-numbered x = within-wider notReady notReady (omega arith) (omega arith) (readyChecks x) (ready-within x)
 
 pub checks-numbered : (agree : Rule) (slots : List Client) (q : Sequence) → Numbered (checksBy agree slots q)
 unfolding checksBy
 checks-numbered agree slots q = (
   (omega arith, omega arith),
-  numbered-append (flatMap (clientChecks agree) (pairs slots (q .records))) _ (numbered-all (clientChecks agree) (client-numbered agree) (pairs slots (q .records)))
-      (numbered-append (flatMap (stepChecks slots) (stepsOf q)) _ (numbered-all (stepChecks slots) (step-numbered slots) (stepsOf q))
-      (numbered-all readyChecks ready-numbered (pairs slots (q .records)))),
+  within-append noStep notReady (flatMap (clientChecks agree) (pairs slots (q .records))) _ (within-all noStep notReady (clientChecks agree) (client-numbered agree) (pairs slots (q .records)))
+      (within-append noStep notReady (flatMap (stepChecks slots) (stepsOf q)) _ (within-all noStep notReady (stepChecks slots) (step-numbered slots) (stepsOf q))
+      (within-all noStep notReady readyChecks ready-numbered (pairs slots (q .records)))),
 )
 
 -- ---- a loop over two arrays of n cells, cell by cell, each pair with its checks: what the pairs from number i on give
@@ -129,7 +155,7 @@ module _ (agree : Rule) (slots : List Client) (q : Sequence) where
   reports = flatMap readyChecks (pairs slots (q .records))
 
   clients-numbered : Numbered clients
-  clients-numbered = numbered-all (clientChecks agree) (client-numbered agree) (pairs slots (q .records))
+  clients-numbered = within-all noStep notReady (clientChecks agree) (client-numbered agree) (pairs slots (q .records))
 
   pub by-client : (r : ℕ) → firstFailing clients ≡ r → (r ≡ 0 → ⊥) → r ≡ firstFailing (clients ++ steps)
   by-client r e h = sym (found clients steps (λ k. h (sym e ∙ k)) ∙ e)
@@ -155,4 +181,4 @@ module _ (agree : Rule) (slots : List Client) (q : Sequence) where
         ∙ sym
         (all
         ∙ passed (clients ++ steps) reports
-        (numbered-append clients steps clients-numbered (numbered-all (stepChecks slots) (step-numbered slots) (stepsOf q))) (sym e ∙ h))
+        (within-append noStep notReady clients steps clients-numbered (within-all noStep notReady (stepChecks slots) (step-numbered slots) (stepsOf q))) (sym e ∙ h))

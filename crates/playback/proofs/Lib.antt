@@ -7,6 +7,8 @@ pub mod Leaves
 pub mod Verifies
 pub mod Agrees
 pub mod Holding
+pub mod Lowest
+pub mod Placed
 pub mod Changes
 pub mod Framing
 pub mod Cases

@@ -1,8 +1,7 @@
 -- Verification gives 0 exactly when every check holds, and else the number of the first that does not.
-use Prim.Native.Nat.{_≤_, _<_}
+use Prim.Native.Nat.{_<_}
 use mathlib.Core.Path.{_≡_, refl, sym, ap}
 use mathlib.Core.Bool.{true, false, true≢false}
-use mathlib.Core.Logic.{_⊎_, inl, inr}
 use mathlib.Core.List.{List, [], _∷_}
 use native.Mathlib.Omega.{arith}
 use lib.ListN.{getD}
@@ -13,7 +12,7 @@ use Rattle.client.specs.declared.Client.{Client}
 use Rattle.sequence.specs.declared.Step.{Step}
 use Rattle.playback.specs.Verification.{Check, firstFailing, namesAgree, isListed, isInPool, checksOf, verifyOf}
 use Rattle.playback.specs.Promises.{EveryHolds, FirstFails, Verifies}
-use Rattle.playback.proofs.Failing.{Numbered, checks-numbered}
+use Rattle.playback.proofs.Failing.{Numbered, within-first, checks-numbered}
 
 starts : (l : List Check) → EveryHolds l → firstFailing l ≡ 0
 unfolding pick firstFailing
@@ -35,12 +34,6 @@ names ((true, n) ∷ l) h =
     record { earlier = (true, n) ∷ r .earlier; later = r .later; all = ap (λ (x : List Check). (true, n) ∷ x) (r .all); hold = (refl, r .hold) }
 names ((false, n) ∷ l) h = record { earlier = []; later = l; all = refl; hold = tt }
 
-numbers : (l : List Check) → Numbered l → (firstFailing l ≡ 0) ⊎ ((7 ≤ firstFailing l) × (firstFailing l ≤ 12))
-unfolding pick firstFailing
-numbers [] k = inl refl
-numbers ((true, n) ∷ l) k = numbers l (k .1)
-numbers ((false, n) ∷ l) k = inr (k .0)
-
 bound : (slots : List Client) (s : Step) → s .slot < 8 → isInPool slots s ≡ isListed (getD slots (s .slot) blankSlot .profile) (s .function) (s .state)
 unfolding isInPool
 bound slots s h = rw (lt-ltb _ _ h)
@@ -51,6 +44,6 @@ verifies = record {
   starts = λ slots q h. starts (checksOf slots q) h;
   only = λ slots q e. only (checksOf slots q) (checks-numbered namesAgree slots q) e;
   names = λ slots q h. names (checksOf slots q) h;
-  numbers = λ slots q. numbers (checksOf slots q) (checks-numbered namesAgree slots q);
+  numbers = λ slots q. within-first 7 12 (checksOf slots q) (checks-numbered namesAgree slots q);
   bound = bound;
 }

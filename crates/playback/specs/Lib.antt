@@ -1,6 +1,8 @@
 pub mod State
 pub mod Pairs
 pub mod Verification
+pub mod Named
+pub mod Places
 pub mod Tick
 pub mod Frames
 pub mod Answer

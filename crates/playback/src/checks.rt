@@ -5,9 +5,9 @@ ghost use mathlib.Core.List.{_++_, flatMap};
 ghost use lib.Dec.{eqb, ltb};
 ghost use lib.ListN.{take};
 ghost use Rattle.octets.specs.Bits.{hasBit};
-ghost use Rattle.arrays.specs.Arrays.{some};
+ghost use Rattle.arrays.specs.Arrays.{firstFrom};
 ghost use Rattle.client.specs.Clients.{slotCount};
-ghost use Rattle.sequence.specs.Sequence.{stepsOf};
+ghost use Rattle.sequence.specs.Sequence.{mostSteps, stepsOf};
 ghost use Rattle.playback.specs.Pairs.{pairs};
 ghost use Rattle.playback.specs.Verification.{firstFailing, agreeUnder, mastersAgree, namesAgree, sameBytes, sameLabel, labelsAgree, askedSlot, isMissing, clientChecks, stepChecks, readyChecks};
 use arrays::at_most;
@@ -87,7 +87,7 @@ fn labels_agree(client: Client, recorded: ClientRecord) -> bool
 }
 
 // 8, 9, 10; done also where the slot is not one of the sequence.
-fn client_check(client: Client, recorded: ClientRecord) -> u8
+pub fn client_check(client: Client, recorded: ClientRecord) -> u8
     ensures { λ r. ⌜ r ≡ firstFailing (clientChecks namesAgree (client, recorded)) ⌝ }
 {
     if recorded.used == 0 {
@@ -123,24 +123,29 @@ fn is_missing(step: Step, slot: usize, listed: bool) -> bool
     (at_most(own, SLOTS - 1) == slot) & !((own < SLOTS) & listed)
 }
 
-// Some step is missing in the pool of this slot. By slot, not by step: a pool is handed over 8 times and not 64 times.
-fn some_missing(profile: Profile, slot: usize, steps: [Step; MOST_STEPS], count: usize) -> bool
-    ensures { λ r. ⌜ r ≡ some (isMissing profile slot) (take count steps) ⌝ }
+// The first step that is missing in the pool of this slot. By slot, not by step: a pool is handed over 8 times and not 64 times.
+pub fn first_missing(
+    profile: Profile,
+    slot: usize,
+    steps: [Step; MOST_STEPS],
+    count: usize,
+) -> usize
+    ensures { λ r. ⌜ r ≡ firstFrom mostSteps (isMissing profile slot) 0 (take count steps) ⌝ }
 {
     let mut i: usize = 0;
     while i < MOST_STEPS {
         if i >= count {
-            return false;
+            return MOST_STEPS;
         }
         let step = steps[i];
         let at = step.function as usize;
         let listed = is_listed(profile.trigger[at], profile.states[at], step.state);
         if is_missing(step, slot, listed) {
-            return true;
+            return i;
         }
         i += 1;
     }
-    false
+    MOST_STEPS
 }
 
 // 8, 9 and 10 by slot, then 11. A slot is copied once: for its client's checks, and to look for its steps.
@@ -158,7 +163,7 @@ pub fn first_check(slots: [Client; SLOTS], sequence: Sequence) -> u8
         if number != DONE {
             return number;
         }
-        missing = missing | some_missing(profile, i, steps, sequence.count);
+        missing = missing | (first_missing(profile, i, steps, sequence.count) < MOST_STEPS);
         i += 1;
     }
     if missing {

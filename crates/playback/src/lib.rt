@@ -5,11 +5,13 @@ ghost use Prim.Native.Nat.{_≤_, _<_};
 ghost use lib.ListN.{length, drop};
 ghost use Rattle.playback.specs.State.{blankSent, blankPlayback};
 ghost use Rattle.playback.specs.Verification.{verifyOf};
+ghost use Rattle.playback.specs.Named.{namedOf};
 ghost use Rattle.playback.specs.Tick.{isLate, someLate, doesStop, isDue, doesLeave, nextTan, countedPlayback, afterLeaving, tickOf};
 ghost use Rattle.playback.specs.Frames.{framesOf, frameCountOf};
 ghost use Rattle.playback.specs.Answer.{isAllDone, withAnswer, answeredOf, hasFunction};
 ghost use Rattle.playback.specs.Promises.{Verifies, Agrees, Changes, Framing};
 ghost use Rattle.playback.specs.Cases.{Cases};
+use crate::named::Named;
 use arrays::more;
 use client::Client;
 use client::SLOTS;
@@ -26,6 +28,7 @@ use sequence::Step;
 mod answers;
 mod buffer;
 mod checks;
+pub mod named;
 
 // The answer to a sent step. A number that is not here counts as started.
 pub const ANSWER_NONE: u8 = 0;
@@ -108,6 +111,14 @@ pub fn verify(slots: [Client; SLOTS], sequence: Sequence) -> u8
     }
     let records = sequence.records;
     checks::first_ready_check(slots, records)
+}
+
+// The same with its slot and its step.
+pub fn first_named(slots: [Client; SLOTS], sequence: Sequence) -> Named
+    ensures { λ r. ⌜ r ≡ namedOf slots sequence ⌝ }
+{
+    let number = verify(slots, sequence);
+    named::named_by(number, slots, sequence)
 }
 
 // ---- a tick

@@ -2,6 +2,7 @@
 use Rattle.pool.specs.{Codes.Codes, Edges.Edges}
 use Rattle.profile.specs.Promises.{SaysOf, KeptOf}
 use Rattle.objects.specs.{RoundTrip.RoundTrip, Tables.Tables}
+use Rattle.flat_object.specs.ReadBack as flat-object
 use Rattle.message.specs.{Promises.ComesBack, Promises.Refuses, Clauses.Clauses}
 use Rattle.flat.specs.{Flat.BackAgain, ReadBack.ReadBack}
 use Rattle.shown.specs.{Promises.ShownValue, Examples.ShownExamples}
@@ -19,7 +20,8 @@ pub record Promises : Type 0 where
   pub determined : Determined
   -- ---- "1. No pool, message or order of calls makes it misbehave."
 
-  -- of every event in every state; with it "starts exactly when", and who gains by the rule of 9 that 02, request 2, has
+  -- of every event in every state; with it "starts exactly when", the check that is named to the screen, and who gains by the rule of 9 that 02, request 2,
+  -- has
   pub calls : events.Promises
   -- "refuses bad input by a number from document 01": exactly where its table and its rules say so
   pub numbers : Numbers
@@ -29,8 +31,9 @@ pub record Promises : Type 0 where
   pub blank-outside : BlankOutside
   -- ---- "2. It follows ISO 11783-14, reading and writing."
 
-  -- a pool taken apart and written again; its codes, its ranges, its fields, and what is kept of it
+  -- a pool taken apart and written again, its objects for C too; its codes, its ranges, its fields, and what is kept of it
   pub pools : RoundTrip
+  pub objects-for-c : flat-object.ReadBack
   pub codes : Codes
   pub edges : Edges
   pub tables : Tables

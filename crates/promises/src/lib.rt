@@ -11,6 +11,7 @@ pub fn promises()
     profile::says();
     objects::round_trip();
     objects::tables();
+    flat_object::read_back();
     message::promises();
     message::clauses();
     flat::promises();

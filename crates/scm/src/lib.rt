@@ -5,9 +5,9 @@ ghost use lib.ListN.{length};
 ghost use lib.Ieee.{binary32, ofBits};
 ghost use Rattle.octets.specs.Label.{blank};
 ghost use Rattle.pool.specs.Pool.{verdictOf};
-ghost use Rattle.objects.specs.Objects.{foundAt};
+ghost use Rattle.objects.specs.Objects.{foundAt, writeAnswer, writeOut};
 ghost use Rattle.rewrite.specs.Rewrite.{rewriteAnswer, rewriteOut};
-ghost use Rattle.flat_object.specs.Flat.{flatObject};
+ghost use Rattle.flat_object.specs.Flat.{flatObject, objectFrom};
 ghost use Rattle.message.specs.Messages.{writtenOf, writtenOver};
 ghost use Rattle.message.specs.declared.Message.the-variants.{Transfer};
 ghost use Rattle.flat.specs.Flat.{messageFrom, readingOf};
@@ -20,20 +20,38 @@ ghost use Rattle.master.specs.Clients.{onCall, offCall, attachCall, wantCall, r
 ghost use Rattle.master.specs.Recording.{recordCall, stopCall, cancelCall, indicationCall};
 ghost use Rattle.master.specs.Playback.{startCall, abortCall, clientAbortCall, answerCall};
 ghost use Rattle.master.specs.Tick.{tickCall};
-ghost use Rattle.master.specs.Readers.{stateOf, slotView, stepView, clientView};
+ghost use Rattle.master.specs.Readers.{stateOf, slotView, stepView, clientView, verifyView, progressOf, takenView, sentView};
+ghost use Rattle.scm.specs.Version.{version};
 use flat::Flat;
 use flat::FlatReading;
 use flat_object::FlatObject;
 use master::Master;
 use master::Outcome;
 use master::readers::ClientView;
+use master::readers::Progress;
+use master::readers::SentView;
 use master::readers::SlotView;
 use master::readers::StepView;
+use master::readers::TakenView;
 use message::Written;
+use playback::Playback;
+use playback::named::Named;
 use pool::Verdict;
 use profile::Profile;
+use recording::Recording;
 use rewrite::Rewritten;
+use sequence::Sequence;
 use shown::Shown;
+
+// 1.0.0: major * 1,000,000 + minor * 1,000 + patch.
+const VERSION: u32 = 1000000;
+
+#[no_mangle]
+pub extern "C" fn scm_version() -> u32
+    ensures { λ r. ⌜ r ≡ version ⌝ }
+{
+    VERSION
+}
 
 #[no_mangle]
 pub extern "C" fn scm_pool_check(bytes: &[u8]) -> Verdict
@@ -55,6 +73,19 @@ pub extern "C" fn scm_object_at(bytes: &[u8], place: usize) -> FlatObject
     ensures { λ r. ⌜ r ≡ flatObject place (foundAt (now (bytes .entry)) place) ⌝ }
 {
     flat_object::object_at(bytes, place)
+}
+
+// The bytes of an object, at a place of the lent buffer.
+#[no_mangle]
+pub extern "C" fn scm_write_object(
+    object: FlatObject,
+    place: usize,
+    out: &mut [u8],
+) -> objects::Written
+    ensures { λ r. ⌜ r ≡ writeAnswer (objectFrom object) (now (out .entry)) place ⌝ }
+    ensures { λ _. ⌜ now (out .exit) ≡ writeOut (objectFrom object) (now (out .entry)) place ⌝ }
+{
+    flat_object::write(object, place, out)
 }
 
 // A pool taken apart and written again.
@@ -248,11 +279,13 @@ pub extern "C" fn scm_master_answer(
     master.answer(slot, msg, out)
 }
 
+// ---- The readers: each takes the part of the master that it reads.
+
 #[no_mangle]
-pub extern "C" fn scm_master_state(master: Master) -> u8
-    ensures { λ r. ⌜ r ≡ stateOf master ⌝ }
+pub extern "C" fn scm_master_state(state: u8) -> u8
+    ensures { λ r. ⌜ r ≡ stateOf state ⌝ }
 {
-    master.state()
+    master::readers::state_of(state)
 }
 
 #[no_mangle]
@@ -263,22 +296,54 @@ pub extern "C" fn scm_master_slot(master: Master, slot: usize) -> SlotView
 }
 
 #[no_mangle]
-pub extern "C" fn scm_master_step_count(master: Master) -> usize
-    ensures { λ r. ⌜ r ≡ lengthOf (master .sequence) ⌝ }
+pub extern "C" fn scm_master_step_count(sequence: Sequence) -> usize
+    ensures { λ r. ⌜ r ≡ lengthOf sequence ⌝ }
 {
-    master.step_count()
+    sequence.len()
 }
 
 #[no_mangle]
-pub extern "C" fn scm_master_step(master: Master, i: usize) -> StepView
-    ensures { λ r. ⌜ r ≡ stepView master i ⌝ }
+pub extern "C" fn scm_master_step(sequence: Sequence, i: usize) -> StepView
+    ensures { λ r. ⌜ r ≡ stepView sequence i ⌝ }
 {
-    master.step(i)
+    master::readers::step_at(sequence, i)
 }
 
 #[no_mangle]
-pub extern "C" fn scm_master_client(master: Master, slot: usize) -> ClientView
-    ensures { λ r. ⌜ r ≡ clientView master slot ⌝ }
+pub extern "C" fn scm_master_client(sequence: Sequence, slot: usize) -> ClientView
+    ensures { λ r. ⌜ r ≡ clientView sequence slot ⌝ }
 {
-    master.client(slot)
+    master::readers::client_at(sequence, slot)
+}
+
+#[no_mangle]
+pub extern "C" fn scm_master_verify(master: Master) -> Named
+    ensures { λ r. ⌜ r ≡ verifyView master ⌝ }
+{
+    master.verify()
+}
+
+#[no_mangle]
+pub extern "C" fn scm_master_progress(
+    state: u8,
+    recording: Recording,
+    playback: Playback,
+) -> Progress
+    ensures { λ r. ⌜ r ≡ progressOf state recording playback ⌝ }
+{
+    master::readers::progress_of(state, recording, playback)
+}
+
+#[no_mangle]
+pub extern "C" fn scm_master_taken(recording: Recording, i: usize) -> TakenView
+    ensures { λ r. ⌜ r ≡ takenView recording i ⌝ }
+{
+    master::readers::taken_at(recording, i)
+}
+
+#[no_mangle]
+pub extern "C" fn scm_master_sent(playback: Playback, i: usize) -> SentView
+    ensures { λ r. ⌜ r ≡ sentView playback i ⌝ }
+{
+    master::readers::sent_at(playback, i)
 }

@@ -73,9 +73,9 @@ pub fn at_end<'a>(w: Window<'a>) -> bool
     is_past(w.pool, w.place)
 }
 
-// The object after the one at a place: plain parameters, so a caller needs no window.
+// The next object that a window at this place reads, with the place after it: plain parameters, so a caller needs no window.
 pub fn next_object(pool: &[u8], place: usize) -> Found
-    ensures { λ r. ⌜ r ≡ foundAt (now (pool .entry)) (nextAt (now (pool .entry)) place) ⌝ }
+    ensures { λ r. ⌜ r ≡ foundAt (now (pool .entry)) place ⌝ }
 {
-    object(moved(open(pool, place)))
+    object(open(pool, place))
 }

@@ -2,6 +2,7 @@
 use Rattle.events.proofs.Theorems.{refused-same, in-table, ordered, inactive}
 use Rattle.events.proofs.Accepts.{never-refused}
 use Rattle.events.proofs.Starts.{start-exactly}
+use Rattle.events.proofs.Named.{named}
 use Rattle.events.proofs.Neighbour.{neighbours}
 use Rattle.events.proofs.Regular.{never-cut, never-bites}
 use Rattle.events.proofs.promises.Statement.{statement}
@@ -15,6 +16,7 @@ returns c = record {
   never-refused = never-refused;
   inactive = inactive;
   start-exactly = start-exactly;
+  named = named;
   neighbours = neighbours;
   never-cut = never-cut;
   never-bites = never-bites;

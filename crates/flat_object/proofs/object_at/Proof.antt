@@ -1,5 +1,5 @@
 -- `flat_object::object_at` meets its contract: the arm says whether there is an object.
-use mathlib.Core.Path.{_≡_, ap, _∙_}
+use mathlib.Core.Path.{_≡_}
 use Prim.Native.Nat.{ℕ}
 use Rattle.objects.specs.declared.Kind.{Kind}
 use Rattle.objects.specs.declared.Found.{Found}
@@ -17,5 +17,5 @@ object-at-spec =
     tie.close
     (tie.spec
     (λ c κs. search needs) (λ c. search needs) (λ c κs. tt) (λ c. search needs) (λ c κs. tt)
-    (λ c. told _ _ _ _ _ (c .head-flat .ensures) (c .before .before .kind .given .1) (c .before .before .before .before .before .object-at .ensures))
-    (λ c. told _ _ _ _ _ (c .none-at .ensures) (c .before .enum-told .given .1) (c .before .before .before .before .object-at .ensures)))
+    (λ c. told _ _ _ _ _ (c .head-flat .ensures) (c .before .before .kind .given .1) (c .before .before .before .before .before .next-object .ensures))
+    (λ c. told _ _ _ _ _ (c .none-at .ensures) (c .before .enum-told .given .1) (c .before .before .before .before .next-object .ensures)))

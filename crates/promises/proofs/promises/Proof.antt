@@ -20,7 +20,8 @@ returns c =
     let at-flat-promises = at-flat-read-back .before in
     let at-message-clauses = at-flat-promises .before in
     let at-message-promises = at-message-clauses .before in
-    let at-objects-tables = at-message-promises .before in
+    let at-flat-object = at-message-promises .before in
+    let at-objects-tables = at-flat-object .before in
     let at-objects-round-trip = at-objects-tables .before in
     let at-profile-says = at-objects-round-trip .before in
     let at-pool-edges = at-profile-says .before in
@@ -34,6 +35,7 @@ returns c =
       ways = at-seen-promises .promises7 .ensures .ways;
       blank-outside = at-seen-promises .promises7 .ensures .blank-outside;
       pools = at-objects-round-trip .round-trip .ensures;
+      objects-for-c = at-flat-object .read-back .ensures;
       codes = at-pool-codes .codes .ensures;
       edges = at-pool-edges .edges .ensures;
       tables = at-objects-tables .tables .ensures;
@@ -43,7 +45,7 @@ returns c =
       refusals = at-message-promises .promises .ensures .1 .0;
       clauses = at-message-clauses .clauses .ensures;
       flat-again = at-flat-promises .promises2 .ensures;
-      messages-for-c = at-flat-read-back .read-back .ensures;
+      messages-for-c = at-flat-read-back .read-back2 .ensures;
       shown = at-shown-promises .promises3 .ensures;
       shown-examples = at-shown-examples .examples .ensures;
       recording = at-recording-promises .promises4 .ensures;
@@ -65,4 +67,4 @@ pub promises-spec : {M : Type 1} → statement M
 promises-spec =
     tie.close
     (tie.spec
-    (λ c κs. search needs) (λ c κs. search needs) (λ c κs. search needs) (λ c κs. search needs) (λ c κs. search needs) (λ c κs. search needs) (λ c κs. search needs) (λ c κs. search needs) (λ c κs. search needs) (λ c κs. search needs) (λ c κs. search needs) (λ c κs. search needs) (λ c κs. search needs) (λ c κs. search needs) (λ c κs. search needs) (λ c κs. search needs) (λ c κs. search needs) (λ c κs. search needs) (λ c κs. search needs) returns)
+    (λ c κs. search needs) (λ c κs. search needs) (λ c κs. search needs) (λ c κs. search needs) (λ c κs. search needs) (λ c κs. search needs) (λ c κs. search needs) (λ c κs. search needs) (λ c κs. search needs) (λ c κs. search needs) (λ c κs. search needs) (λ c κs. search needs) (λ c κs. search needs) (λ c κs. search needs) (λ c κs. search needs) (λ c κs. search needs) (λ c κs. search needs) (λ c κs. search needs) (λ c κs. search needs) (λ c κs. search needs) returns)

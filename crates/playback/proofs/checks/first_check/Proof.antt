@@ -3,7 +3,7 @@ use mathlib.Core.Path.{_≡_, ap, _∙_}
 use mathlib.Core.List.{flatMap}
 use Prim.Native.Nat.{_-_, _≤_}
 use native.Mathlib.Omega.{arith}
-use lib.ListN.{length}
+use lib.ListN.{length, take, length-take}
 use borrow.Author.Needs.{needs}
 use Rattle.octets.specs.Pick.{pick}
 use Rattle.octets.specs.Numbers.{notInPool}
@@ -45,12 +45,16 @@ loop-again : tie.Need-loop-again Inv-loop μ-loop
 unfolding stepsOf
 loop-again c =
     let e = c .before in
-    let v = e .before .before .before .before .before .before .loop .inv in (
+    let b = e .before .before .before .before .before .before in
+    let q = b .before .before .before .args .sequence in
+    let k : length (q .steps) ≡ 64 = search (needs, length-mapped) in
+    let n : length (take (q .count) (q .steps)) ≤ 64 = simp length-take (omega arith) in
+    let v = b .loop .inv in (
       v .0,
       v .1,
       omega arith,
       v .3 ∙ miss-of _ _ _ _ (v .0) (v .1) _ _ _ _ (omega arith) (e .before .client-check .ensures) (client-numbered namesAgree) (e .if1 .left),
-      v .4 ∙ turn _ (v .0) _ _ (omega arith) _ _ _ (c .some-missing .ensures),
+      v .4 ∙ turn _ (v .0) _ _ (omega arith) _ _ _ n (c .first-missing .ensures),
     )
 
 returns-2 : tie.Need-returns-2 Inv-loop μ-loop

@@ -1,10 +1,10 @@
--- `master::Master::state` meets its contract: by its test.
+-- `master::readers::state_of` meets its contract: by its test.
 use mathlib.Core.Path.{sym}
 use native.Mathlib.Omega.{arith}
 use Rattle.master.specs.Readers.{stateOf}
 use native.Mathlib.Nat.{min-eq-left, min-eq-right}
-use Rattle.master.proofs.Master.state.Statement.{statement}
-use Rattle.master.proofs.Master.state.Tie as tie
+use Rattle.master.proofs.readers.state_of.Statement.{statement}
+use Rattle.master.proofs.readers.state_of.Tie as tie
 
 returns : tie.Need-returns
 unfolding stateOf
@@ -14,5 +14,5 @@ returns-2 : tie.Need-returns-2
 unfolding stateOf
 returns-2 c = sym (min-eq-right (omega arith))
 
-pub state-spec : {M : Type 1} → statement M
-state-spec = tie.close (tie.spec returns returns-2)
+pub state-of-spec : {M : Type 1} → statement M
+state-of-spec = tie.close (tie.spec returns returns-2)

@@ -1,10 +1,10 @@
--- `master::Master::step` meets its contract: by its test.
+-- `master::readers::step_at` meets its contract: by its test.
 use borrow.Author.Tests.{le-leb, lt-leb}
 use Rattle.octets.specs.Pick.{pick}
 use Rattle.master.specs.Readers.{stepView}
 use borrow.Author.Needs.{needs}
-use Rattle.master.proofs.Master.step.Statement.{statement}
-use Rattle.master.proofs.Master.step.Tie as tie
+use Rattle.master.proofs.readers.step_at.Statement.{statement}
+use Rattle.master.proofs.readers.step_at.Tie as tie
 
 returns : tie.Need-returns
 unfolding pick stepView
@@ -14,5 +14,5 @@ returns-2 : tie.Need-returns-2
 unfolding pick stepView
 returns-2 c = rw (← c .before .before .len .ensures, lt-leb _ _ (c .before .if1 .left))
 
-pub step-spec : {M : Type 1} → statement M
-step-spec = tie.close (tie.spec (λ c κs. search needs) (λ c κs. search needs) returns (λ c. search needs) (λ c. search needs) returns-2)
+pub step-at-spec : {M : Type 1} → statement M
+step-at-spec = tie.close (tie.spec (λ c κs. search needs) (λ c κs. search needs) returns (λ c. search needs) (λ c. search needs) returns-2)
