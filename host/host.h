@@ -1,148 +1,241 @@
-/* What the files of this terminal share, a part for each file. */
+/* What the files of this terminal share, a part for each file. Nothing is kept between calls but in structs that the caller owns, and every text is
+   written into a buffer that the caller gives. A function that may fail gives back a bool; with false its fault says what went wrong. */
 #ifndef HOST_H
 #define HOST_H
 
 #include <inttypes.h>
 #include <stdbool.h>
 #include <stdio.h>
-#include <stdlib.h>
 
 #include "scm.h"
 
-#define MOST_STEPS 64u
-#define PLOTS 20u
+/* ---- main.c: the command line, and what went wrong */
 
-/* Says what went wrong and ends the program with status 1. */
-#define fail(...) do { fprintf(stderr, "terminal: " __VA_ARGS__); fprintf(stderr, "\n"); exit(1); } while (0)
+enum fault_kind {
+    FAULT_NONE,
+    FAULT_RUN,                      /* a run does not do what it should, or cannot write what it has to say */
+    FAULT_INPUT,                    /* a file that is given cannot be read */
+    FAULT_USAGE                     /* words on the command line that mean nothing */
+};
 
-/* ---- terminal.c: the story, and the command line */
+struct fault {
+    enum fault_kind kind;
+    char text[512];
+};
 
-/* Every number that a call gives is looked at: one other than 0, where none is expected, ends the program. */
-void must(const char *what, uint8_t number);
-/* A message of eight bytes that must be of this kind. */
-scm_message message_of(uint32_t side, uint8_t kind, const uint8_t *bytes);
+/* Always gives false, so that a function can say what went wrong and end in one line. */
+bool fault_say(struct fault *fault, enum fault_kind kind, const char *format, ...);
+/* Whether a call gave 0; every number that a call gives is looked at. */
+bool fault_unless_done(struct fault *fault, const char *what, uint8_t number);
 
 /* ---- pools.c: the two clients of the drill, and what their pools say */
 
-enum { DRILL = 0, FAN = 1, CLIENTS = 2 };                               /* slots */
-enum { GATE = 4, COULTERS = 5, BLOWER = 9 };                            /* function IDs */
-enum { SHUT = 0, OPEN = 1, UP = 1, DOWN = 2, SLOW = 1, FAST = 2 };      /* state IDs */
+enum pool_slot { POOL_DRILL = 0, POOL_FAN = 1, POOL_CLIENTS = 2 };
+enum pool_function { POOL_GATE = 4, POOL_COULTERS = 5, POOL_BLOWER = 9 };
+enum pool_state { POOL_SHUT = 0, POOL_OPEN = 1, POOL_UP = 1, POOL_DOWN = 2, POOL_SLOW = 1, POOL_FAST = 2 };
 
-struct client {
+#define POOL_TEXT_BYTES 64u         /* enough for each text below */
+
+struct pool {                       /* a client */
     uint64_t name;
-    const uint8_t *pool;
     size_t length;
+    uint8_t bytes[256];             /* enough for these two; what comes from the bus needs SCM_POOL_BYTES */
 };
 
-extern const struct client clients[CLIENTS];
-
-scm_object function_of(uint32_t slot, uint8_t function);
-/* For the screen: the client; function and state; the value with its unit, or "-" where the pool says that no number is shown. */
-const char *client_text(uint32_t slot);
-const char *step_text(uint32_t slot, uint8_t function, uint8_t state);
-const char *shown_text(uint32_t slot, uint8_t function, uint32_t value);
+bool pool_make(uint32_t slot, struct pool *pool, struct fault *fault);
+/* The function's object; of kind SCM_OBJECT_NONE where the pool has none. */
+scm_object pool_function(const struct pool *pool, uint8_t function);
+/* For the screen: the client; function and state; the value with its unit, or "-" where the pool says that no number is shown. "?" stands for what the
+   pool does not have. */
+void pool_client_text(const struct pool *pool, char text[POOL_TEXT_BYTES]);
+void pool_step_text(const struct pool *pool, uint8_t function, uint8_t state, char text[POOL_TEXT_BYTES]);
+void pool_shown_text(const struct pool *pool, uint8_t function, uint32_t value, char text[POOL_TEXT_BYTES]);
 
 /* ---- events.c: an event, handed to the library and written down */
 
 enum event_kind {
-    ON, OFF, ATTACH, ENABLE, DISABLE, REPORT, LOST, RECORD, STOP, CANCEL, INDICATION, CLIENT_ABORT, START, ABORT, TICK, ANSWER, EVENT_KINDS
+    EVENT_ON, EVENT_OFF, EVENT_ATTACH, EVENT_ENABLE, EVENT_DISABLE, EVENT_REPORT, EVENT_LOST, EVENT_RECORD, EVENT_STOP, EVENT_CANCEL, EVENT_INDICATION,
+    EVENT_CLIENT_ABORT, EVENT_START, EVENT_ABORT, EVENT_TICK, EVENT_ANSWER, EVENT_KINDS
 };
 
 struct event {                      /* fields that its kind does not have are not looked at */
     enum event_kind kind;
     uint32_t slot;
     uint64_t name;                  /* attach */
-    uint32_t report;                /* report: SCM_REPORT_... */
+    uint8_t report;                 /* report: SCM_REPORT_... */
     uint32_t mm;                    /* tick: driven since the last one */
     const uint8_t *bytes;           /* attach: the pool; indication, client_abort and answer: the message */
     size_t length;
 };
 
-struct outcome {                    /* what the library gave */
+struct event_outcome {              /* what came of an event; what it does not have is 0 */
     uint8_t number;
     uint8_t code;                   /* attach: with number 6 the code of D.9, and the object */
     uint16_t object;
+    bool checked;                   /* start: a check of 8 to 12 does not hold, and where */
+    scm_check_view check;
     uint32_t count;                 /* tick: frames */
     uint8_t frames[SCM_FRAMES_BYTES];
-    uint8_t out[SCM_ANSWER_BYTES];  /* enable and disable: E.2; indication: E.5; answer: E.8 */
+    bool sends;                     /* there is a message to send: attach D.9, enable and disable E.2, indication E.5, answer E.8 */
+    uint8_t out[SCM_ANSWER_BYTES];
+    uint8_t before, after;          /* the master's states */
+    uint32_t tick;                  /* tick: its number since the recording or the playback began; 0 in other states */
 };
 
 struct event_form {                 /* how an event stands in a file of events */
     const char *word;
     const char *fields;             /* s slot, n NAME, r report, m millimetres, b bytes */
-    const char *writes;             /* the message that the library writes, or NULL */
+    const char *message;            /* the one that its outcome sends, or NULL */
 };
 
-struct terminal {
-    scm_master master;
-    uint32_t ticks;                 /* since the recording or the playback began */
-    FILE *log;                      /* where to write down what happens, or NULL */
+struct event_text {                 /* lines that begin with #= */
+    size_t length;
+    char bytes[4096];               /* enough for an outcome with 64 frames */
 };
 
 extern const struct event_form event_forms[EVENT_KINDS];
-extern const char *const report_words[6];
-void write_event(FILE *log, const struct event *event);
-uint8_t run_event(struct terminal *terminal, const struct event *event, struct outcome *outcome);
+void event_run(scm_master *master, const struct event *event, struct event_outcome *outcome);
+/* An event as a line of a file of events; and what came of it, the number in the first line. */
+void event_write(FILE *log, const struct event *event);
+void event_outcome_text(const struct event *event, const struct event_outcome *outcome, struct event_text *text);
+/* A message of eight bytes that must be of this kind. */
+bool event_message(uint32_t side, uint8_t kind, const uint8_t *bytes, scm_message *message, struct fault *fault);
+
+/* ---- ticker.c: how many ticks are to be called now, by the clock or as fast as it goes */
+
+struct ticker {
+    bool (*wait)(struct ticker *ticker, uint64_t until);    /* sets now, to until at the least */
+    uint64_t begun, now;            /* milliseconds */
+    uint32_t called;                /* ticks; whoever calls one counts it here */
+    uint32_t late;                  /* a simulated clock: by how many milliseconds it comes late, once */
+};
+
+void ticker_simulated(struct ticker *ticker);
+bool ticker_real(struct ticker *ticker, struct fault *fault);
+/* Waits until a tick is due, and gives how many are: one for each 100 ms that have passed and for which none was called. */
+bool ticker_due(struct ticker *ticker, uint32_t *due, struct fault *fault);
 
 /* ---- drill.c: the clients as they behave; on a real drill they are at the other end of the bus */
 
-#define INDICATIONS 10u             /* how many E.4s the driver's plot end has */
-#define DRIVER_STOPS 20u            /* the tick after which he stops the recording */
+#define DRILL_INDICATIONS 10u       /* how many E.4s the driver's plot end has */
+#define DRILL_STOPS 20u             /* the tick after which he stops the recording */
 
-/* E.4 number i, as an event; false if it is not sent at this tick. */
-bool drill_indicates(size_t i, uint32_t tick, uint32_t depth, struct event *event);
-void drill_begins(unsigned plot);
+struct drill_task {                 /* a command that a client has taken */
+    uint32_t slot;
+    scm_message_step step;
+    uint32_t answered, done;        /* the ticks of its first and of its last answer */
+    bool told, finished;            /* which of them are out */
+};
+
+struct drill {
+    unsigned plot;                  /* no two plots are quite alike */
+    uint32_t mute;                  /* the slot of a client that gives no answer; POOL_CLIENTS for none */
+    size_t said;                    /* E.4s */
+    size_t count;
+    struct drill_task tasks[SCM_STEPS];
+    uint8_t message[8];             /* the last one that a client sent */
+};
+
+void drill_begins(struct drill *drill, unsigned plot);
+/* Whether a client has an E.4, or an E.7, to send up to this tick; then it is the event. */
+bool drill_indicates(struct drill *drill, uint32_t tick, uint32_t depth, struct event *event);
+bool drill_answers(struct drill *drill, uint32_t tick, struct event *event);
 /* A client takes an E.6; one that it has taken before changes nothing. */
-void drill_takes(uint32_t tick, const uint8_t frame[SCM_FRAME_BYTES]);
-/* The next E.7 of this tick, as an event; false if there is no more. */
-bool drill_answers(uint32_t tick, struct event *event);
+bool drill_takes(struct drill *drill, uint32_t tick, const uint8_t frame[SCM_FRAME_BYTES], struct fault *fault);
 
 /* ---- sheet.c: the plot sheet, the inspector's answers and the test bench's */
 
-struct line {                       /* a step of a plot; a tick of 0 has not come yet */
+#define SHEET_PLOTS 20u
+
+struct sheet_line {                 /* a step of a plot; a tick of 0 has not come yet */
     uint8_t frame[SCM_FRAME_BYTES]; /* slot and E.6, as they first left */
     scm_message_step command;       /* what the E.6 says */
     uint32_t due, left, answered, done;
+    uint32_t due_mm;                /* how far was driven when it was due */
+    uint32_t late, late_mm;         /* how long after its own due tick it left, and how far was driven between the two */
     uint32_t times;                 /* bit k: the command left k ticks after it first left */
 };
 
-struct plot {
+struct sheet_plot {
     uint32_t ticks, distance;
+    bool lowered;                   /* the coulters were commanded down, and by which value */
+    uint32_t depth;
     size_t sent;
-    struct line lines[MOST_STEPS];
+    size_t latest;                  /* the step that left latest after its own due tick; of two that left so, the one that came further */
+    struct sheet_line lines[SCM_STEPS];
 };
 
 struct sheet {
+    const struct pool *clients;
     size_t steps;
-    scm_step_view recorded[MOST_STEPS];
-    size_t plots;
-    struct plot plot[PLOTS];        /* the last one begun is the one that is driven */
+    scm_step_view recorded[SCM_STEPS];
+    size_t plots;                   /* begun; the last one is the one that is driven */
+    struct sheet_plot plot[SHEET_PLOTS];
     size_t commands, repeats;       /* in all plots that were checked */
-    uint32_t latest;                /* the most ticks that a step left after its own due tick, and where that was first */
-    size_t latest_plot, latest_step;
+    size_t latest_plot;             /* where a step left latest, first so: that plot's latest */
+    size_t furthest_plot, furthest_step;                    /* where a step left furthest from where it was due, first so */
+    size_t slowest_plot, slowest_step;                      /* where a first answer took longest, first so */
     uint32_t busiest;               /* the most often that one command left in ten ticks in a row */
 };
 
-void sheet_recorded(struct sheet *sheet, const scm_master *master);
-void sheet_tick(struct sheet *sheet, uint32_t mm, const struct outcome *outcome);
-void sheet_answer(struct sheet *sheet, const struct event *event, const struct outcome *outcome);
-/* Ends the program where the plot just driven does not keep to the promises. */
-void sheet_check(struct sheet *sheet);
-void sheet_print(const struct sheet *sheet);
+bool sheet_recorded(struct sheet *sheet, const struct pool *clients, const scm_master *master, struct fault *fault);
+bool sheet_tick(struct sheet *sheet, uint32_t mm, const struct event_outcome *outcome, struct fault *fault);
+bool sheet_answer(struct sheet *sheet, const struct event *event, const struct event_outcome *outcome, struct fault *fault);
+/* Whether the plot just driven keeps to the promises. */
+bool sheet_check(struct sheet *sheet, struct fault *fault);
+/* The answers and a line for each plot; with full also every step of every plot. */
+void sheet_print(FILE *file, const struct sheet *sheet, bool full);
 /* Whether a step's command left at this tick, for the first time or again. */
-bool sheet_left_at(const struct line *line, uint32_t tick);
-/* The value by which a plot's coulters went down. */
-uint32_t sheet_depth(const struct plot *plot);
+bool sheet_left_at(const struct sheet_line *line, uint32_t tick);
+/* Kilometres an hour on the whole plot. */
+double sheet_speed(const struct sheet_plot *plot);
 
-/* ---- picture.c: one plot end on a time line, as SVG */
+/* ---- picture.c: one plot end on a time line, as SVG: that where a step left latest, or that where a first answer took longest */
 
-void picture_write(FILE *file, const struct sheet *sheet);
+enum picture_kind { PICTURE_LATEST, PICTURE_SLOWEST };
+
+void picture_write(FILE *file, const struct sheet *sheet, enum picture_kind kind);
+
+/* ---- terminal.c: the terminal itself */
+
+struct terminal {
+    scm_master master;
+    struct pool clients[POOL_CLIENTS];
+    struct drill drill;
+    struct ticker ticker;
+    struct event_outcome outcome;   /* of the last event */
+    struct sheet *sheet;            /* to fill, or NULL */
+    FILE *log;                      /* where to write down what happens, or NULL */
+    uint32_t at_once;               /* the most ticks that were called at once */
+    char why[160];                  /* why the last playback ended in an abort */
+};
+
+/* Everything as it is before the master is switched on, with a simulated clock. */
+bool terminal_make(struct terminal *terminal, FILE *log, struct fault *fault);
+/* The whole story: one plot end recorded, and replayed at twenty. */
+bool terminal_play(struct terminal *terminal, uint32_t depth, struct sheet *sheet, struct fault *fault);
+/* Replays by the clock for so many seconds; then the operator stops. */
+bool terminal_live(struct terminal *terminal, uint32_t seconds, struct fault *fault);
+/* What goes wrong on a field, and how the terminal goes on. */
+bool terminal_mishaps(struct terminal *terminal, struct fault *fault);
 
 /* ---- script.c: a file of events */
 
-/* NULL, or the reason why the text is no number of 32 bits. */
-const char *read_number(const char *text, uint32_t *number);
-/* Runs a file and writes down what each line gives. 0, or 2 where the file or a line of it cannot be read. */
-int script_run(struct terminal *terminal, const char *path);
+#define SCRIPT_LINE_BYTES 65535u    /* a full pool in hex fits, with blanks */
+
+struct script {
+    scm_master master;
+    FILE *out;                      /* where to write what each line gives; NULL where that is held to the lines with #= */
+    unsigned long number, events;   /* of the line, and how many events were run */
+    size_t length;                  /* of the line, without its end */
+    char line[SCRIPT_LINE_BYTES + 1];
+    uint8_t bytes[SCRIPT_LINE_BYTES / 2];
+    struct event_text given;        /* by the last event, one line after the other */
+    size_t met;                     /* how much of it has stood in the file */
+};
+
+bool script_number(const char *text, uint32_t *number, struct fault *fault);
+/* Runs a file and writes down what each line gives, or holds it to the file. */
+bool script_run(struct script *script, const char *path, FILE *out, struct fault *fault);
 
 #endif

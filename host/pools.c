@@ -1,12 +1,7 @@
-/* The two clients of the drill: their NAMEs, their pools as annex A lays them out, and what the screen reads in them. */
+/* The two clients of the drill: their NAMEs, their pools, written object by object, and what the screen reads in them. */
 #include <string.h>
 
 #include "host.h"
-
-/* Numbers in a pool stand least significant byte first. */
-#define TWO(n) (n) & 0xFF, (n) >> 8
-#define FOUR(n) (n) & 0xFF, (n) >> 8 & 0xFF, (n) >> 16 & 0xFF, (n) >> 24 & 0xFF
-#define EIGHT(n) FOUR((n) & 0xFFFFFFFFu), FOUR((n) >> 32)
 
 /* NAMEs of ISO 11783-5: self-configurable, agriculture, planters and seeders; then function, instances, manufacturer and identity number. */
 #define DRILL_NAME UINT64_C(0xA008810024601267)
@@ -17,107 +12,109 @@
 
 #define TENTH 0x3DCCCCCDu                           /* 0.1 and 0.5 as bits of a float */
 #define HALF  0x3F000000u
-#define NONE  0xFFFFFFFFu                           /* style 00: no number is shown */
+#define NONE  0xFFFFFFFFu                           /* no number is shown, so minimum to unit are one bits */
 
-static const uint8_t drill_pool[] = {
-    /* base: number, type, version of the standard; master NAME (its own), mask; name, picture; lengths of the labels, two functions */
-    TWO(0), 0, 2, EIGHT(DRILL_NAME), EIGHT(EVERY_BIT), TWO(1), TWO(100), 4, 6, 2,
-    'v', '1', '.', '2', '8', ' ', 'r', 'o', 'w', 's', TWO(1), TWO(2),
-    /* function: number, type, ID; trigger 2 (distance), style 00, so minimum to unit are one bits; name, picture; two states */
-    TWO(1), 1, GATE, 2, 0, FOUR(NONE), FOUR(NONE), FOUR(NONE), FOUR(NONE), 0xFF, TWO(0xFFFF), TWO(2), TWO(101), 2, TWO(3), TWO(4),
-    /* function: trigger 2 (distance), style 10; 0 to 1000, offset 0, scale 0.1, one decimal, unit mm; name, picture; two states */
-    TWO(2), 1, COULTERS, 2, 2, FOUR(0), FOUR(1000), FOUR(0), FOUR(TENTH), 1, TWO(8), TWO(3), TWO(102), 2, TWO(5), TWO(6),
-    /* states: number, type, ID, name, picture */
-    TWO(3), 2, SHUT, TWO(4), TWO(103),
-    TWO(4), 2, OPEN, TWO(5), TWO(104),
-    TWO(5), 2, UP, TWO(6), TWO(105),
-    TWO(6), 2, DOWN, TWO(7), TWO(106),
+/* A base's number and a state ID of 0 are what a field is that nobody names. */
+static const scm_object drill_objects[] = {
+    {.kind = SCM_OBJECT_BASE, .standard = 2, .master = DRILL_NAME, .mask = EVERY_BIT, .name = 1, .picture = 100,
+     .n = 4, .version = "v1.2", .m = 6, .configuration = "8 rows", .count = 2, .list = {1, 2}},
+    {.kind = SCM_OBJECT_FUNCTION, .number = 1, .function = POOL_GATE, .trigger = SCM_TRIGGER_DISTANCE, .attribute = SCM_STYLE_HIDDEN,
+     .minimum = NONE, .maximum = NONE, .offset = NONE, .scale = NONE, .decimals = 0xFF, .unit = 0xFFFF, .name = 2, .picture = 101, .count = 2, .list = {3, 4}},
+    {.kind = SCM_OBJECT_FUNCTION, .number = 2, .function = POOL_COULTERS, .trigger = SCM_TRIGGER_DISTANCE, .attribute = SCM_STYLE_CHANGED,
+     .minimum = 0, .maximum = 1000, .offset = 0, .scale = TENTH, .decimals = 1, .unit = 8, .name = 3, .picture = 102, .count = 2, .list = {5, 6}},
+    {.kind = SCM_OBJECT_STATE, .number = 3, .state = POOL_SHUT, .name = 4, .picture = 103},
+    {.kind = SCM_OBJECT_STATE, .number = 4, .state = POOL_OPEN, .name = 5, .picture = 104},
+    {.kind = SCM_OBJECT_STATE, .number = 5, .state = POOL_UP, .name = 6, .picture = 105},
+    {.kind = SCM_OBJECT_STATE, .number = 6, .state = POOL_DOWN, .name = 7, .picture = 106},
 };
 
-static const uint8_t fan_pool[] = {
-    /* base: the fan has no texts and pictures of its own, so its master is the drill; one function */
-    TWO(0), 0, 2, EIGHT(DRILL_NAME), EIGHT(BUT_IDENTITY), TWO(9), TWO(107), 4, 4, 1, 'v', '2', '.', '0', 'f', 'a', 'n', '1', TWO(1),
-    /* function: trigger 1 (time), style 10; 0 to 8000, offset 800, scale 0.5, no decimal, unit rpm; name, picture; two states */
-    TWO(1), 1, BLOWER, 1, 2, FOUR(0), FOUR(8000), FOUR(800), FOUR(HALF), 0, TWO(12), TWO(9), TWO(107), 2, TWO(2), TWO(3),
-    TWO(2), 2, SLOW, TWO(10), TWO(108),
-    TWO(3), 2, FAST, TWO(11), TWO(109),
+/* The fan has no texts and pictures of its own, so its master is the drill. */
+static const scm_object fan_objects[] = {
+    {.kind = SCM_OBJECT_BASE, .standard = 2, .master = DRILL_NAME, .mask = BUT_IDENTITY, .name = 9, .picture = 107,
+     .n = 4, .version = "v2.0", .m = 4, .configuration = "fan1", .count = 1, .list = {1}},
+    {.kind = SCM_OBJECT_FUNCTION, .number = 1, .function = POOL_BLOWER, .trigger = SCM_TRIGGER_TIME, .attribute = SCM_STYLE_CHANGED,
+     .minimum = 0, .maximum = 8000, .offset = 800, .scale = HALF, .decimals = 0, .unit = 12, .name = 9, .picture = 107, .count = 2, .list = {2, 3}},
+    {.kind = SCM_OBJECT_STATE, .number = 2, .state = POOL_SLOW, .name = 10, .picture = 108},
+    {.kind = SCM_OBJECT_STATE, .number = 3, .state = POOL_FAST, .name = 11, .picture = 109},
 };
 
-const struct client clients[CLIENTS] = {
-    {DRILL_NAME, drill_pool, sizeof drill_pool},
-    {FAN_NAME, fan_pool, sizeof fan_pool},
-};
+/* One object after the other; each says where the next one begins. */
+bool pool_make(uint32_t slot, struct pool *pool, struct fault *fault)
+{
+    const scm_object *objects = slot == POOL_DRILL ? drill_objects : fan_objects;
+    size_t count = slot == POOL_DRILL ? sizeof drill_objects / sizeof drill_objects[0] : sizeof fan_objects / sizeof fan_objects[0];
+
+    *pool = (struct pool){.name = slot == POOL_DRILL ? DRILL_NAME : FAN_NAME};
+    for (size_t i = 0; i < count; i++) {
+        uint8_t number = scm_object_write(&objects[i], pool->length, pool->bytes, sizeof pool->bytes, &pool->length);
+        if (!fault_unless_done(fault, "writing an object of a pool", number)) {
+            return false;
+        }
+    }
+    return true;
+}
 
 /* The texts that the pools name by number. On a drill they are in the pool that the working set master has sent to the screen. */
-static const char *text_of(uint16_t number)
+static const char *pool_text(uint16_t number)
 {
-    static const char *const texts[] = {"", "gate and coulters", "gate", "coulters", "shut", "open", "up", "down", "mm", "fan", "slow", "fast", "rpm"};
+    static const char *const texts[] = {"?", "gate and coulters", "gate", "coulters", "shut", "open", "up", "down", "mm", "fan", "slow", "fast", "rpm"};
 
-    return number < sizeof texts / sizeof texts[0] ? texts[number] : "?";
+    return number < sizeof texts / sizeof texts[0] ? texts[number] : texts[0];
 }
 
-/* The object at a place of a client's pool; the place moves on to the next one. */
-static scm_object next_object(uint32_t slot, size_t *place)
+scm_object pool_function(const struct pool *pool, uint8_t function)
 {
-    scm_object object = scm_object_at(clients[slot].pool, clients[slot].length, *place);
+    scm_object object = scm_object_at(pool->bytes, pool->length, 0);
 
-    if (object.kind == SCM_OBJECT_NONE) {
-        fail("the pool of slot %" PRIu32 " does not have what a step names", slot);
+    while (object.kind != SCM_OBJECT_NONE && (object.kind != SCM_OBJECT_FUNCTION || object.function != function)) {
+        object = scm_object_at(pool->bytes, pool->length, object.next);
     }
-    *place = object.next;
     return object;
 }
 
-scm_object function_of(uint32_t slot, uint8_t function)
+void pool_client_text(const struct pool *pool, char text[POOL_TEXT_BYTES])
 {
-    size_t place = 0;
-    scm_object object;
+    scm_object base = scm_object_at(pool->bytes, pool->length, 0);      /* the base stands first in both pools */
 
-    do {
-        object = next_object(slot, &place);
-    } while (object.kind != SCM_OBJECT_FUNCTION || object.function != function);
-    return object;
+    snprintf(text, POOL_TEXT_BYTES, "%s", pool_text(base.name));
 }
 
-const char *client_text(uint32_t slot)
+static bool pool_lists(const scm_object *owner, uint16_t number)
 {
-    size_t place = 0;
-
-    return text_of(next_object(slot, &place).name);         /* the base stands first in both pools */
+    for (size_t i = 0; i < owner->count; i++) {
+        if (owner->list[i] == number) {
+            return true;
+        }
+    }
+    return false;
 }
 
 /* Two functions may have states of one ID: the right one is in the function's list. */
-const char *step_text(uint32_t slot, uint8_t function, uint8_t state)
+void pool_step_text(const struct pool *pool, uint8_t function, uint8_t state, char text[POOL_TEXT_BYTES])
 {
-    static char text[64];
-    scm_object owner = function_of(slot, function);
-    size_t place = 0;
+    scm_object owner = pool_function(pool, function);
+    scm_object object = scm_object_at(pool->bytes, pool->length, 0);
 
-    for (;;) {
-        scm_object object = next_object(slot, &place);
-        for (size_t i = 0; i < owner.count; i++) {
-            if (object.kind == SCM_OBJECT_STATE && object.state == state && object.number == owner.list[i]) {
-                snprintf(text, sizeof text, "%s %s", text_of(owner.name), text_of(object.name));
-                return text;
-            }
-        }
+    while (object.kind != SCM_OBJECT_NONE && (object.kind != SCM_OBJECT_STATE || object.state != state || !pool_lists(&owner, object.number))) {
+        object = scm_object_at(pool->bytes, pool->length, object.next);
     }
+    snprintf(text, POOL_TEXT_BYTES, "%s %s", pool_text(owner.name), pool_text(object.name));
 }
 
-const char *shown_text(uint32_t slot, uint8_t function, uint32_t value)
+void pool_shown_text(const struct pool *pool, uint8_t function, uint32_t value, char text[POOL_TEXT_BYTES])
 {
-    static char text[64];
-    scm_object object = function_of(slot, function);
+    scm_object object = pool_function(pool, function);
     int32_t offset;
     float scale;
     double shown;
 
-    if (object.attribute == 0) {
-        return "-";
-    }
     memcpy(&offset, &object.offset, sizeof offset);         /* the object holds their bits */
     memcpy(&scale, &object.scale, sizeof scale);
-    must("shown value", scm_shown(value, offset, scale, &shown));
-    snprintf(text, sizeof text, "%.*f %s", (int)object.decimals, shown, text_of(object.unit));
-    return text;
+    if (object.kind == SCM_OBJECT_FUNCTION && object.attribute == SCM_STYLE_HIDDEN) {
+        snprintf(text, POOL_TEXT_BYTES, "-");
+    } else if (scm_shown(value, offset, scale, &shown) != SCM_OK) {
+        snprintf(text, POOL_TEXT_BYTES, "?");
+    } else {
+        snprintf(text, POOL_TEXT_BYTES, "%.*f %s", (int)object.decimals, shown, pool_text(object.unit));
+    }
 }

@@ -1,130 +1,198 @@
 /* A file of events: one event a line, its word and its fields as events.c has them; from # on a line is a remark. Lines that begin with #= are what
-   an earlier run gave: they are passed over and written anew. */
+   an earlier run gave: they are written anew, or held to what this run gives. */
+#include <stdlib.h>
 #include <string.h>
 
 #include "host.h"
 
-#define LINE_BYTES 65536u           /* a full pool in hex fits, with blanks */
-#define MOST_BYTES (LINE_BYTES / 2)
 #define BLANKS " \t\r"
+#define DIGITS "0123456789"
 
-static uint8_t bytes[MOST_BYTES];   /* of the event that is read */
+/* A function that reads a word says by its fault why it cannot; file and line are put before it by script_run. */
 
-/* In this file a function that reads gives NULL, or the reason why it cannot. */
-
-const char *read_number(const char *text, uint32_t *number)
+bool script_number(const char *text, uint32_t *number, struct fault *fault)
 {
-    size_t length = strspn(text, "0123456789");
-    unsigned long long value = length <= 10 ? strtoull(text, NULL, 10) : UINT64_MAX;
+    size_t length = strspn(text, DIGITS);
+    size_t zeros = strspn(text, "0");                       /* as many as there are */
+    unsigned long long value = length - zeros <= 10 ? strtoull(text, NULL, 10) : UINT64_MAX;
 
-    if (length == 0 || text[length] != '\0') {
-        return "not a number";
-    }
     *number = (uint32_t)value;
-    return value <= UINT32_MAX ? NULL : "a number above 4294967295";
+    return ((length > 0 && text[length] == '\0') || fault_say(fault, FAULT_INPUT, "not a number"))
+        && (value <= UINT32_MAX || fault_say(fault, FAULT_INPUT, "a number above 4294967295"));
 }
 
-static const char *read_name(const char *text, uint64_t *name)
+static bool script_name(const char *text, uint64_t *name, struct fault *fault)
 {
     *name = strtoull(text, NULL, 16);
-    return strlen(text) == 16 && strspn(text, "0123456789ABCDEFabcdef") == 16 ? NULL : "a NAME is 16 hex digits";
+    return (strlen(text) == 16 && strspn(text, DIGITS "ABCDEFabcdef") == 16) || fault_say(fault, FAULT_INPUT, "a NAME is 16 hex digits");
 }
 
-static const char *read_report(const char *text, uint32_t *report)
+static bool script_report(const char *text, uint8_t *report, struct fault *fault)
 {
-    for (*report = 0; *report < 6; (*report)++) {
-        if (report_words[*report] != NULL && strcmp(text, report_words[*report]) == 0) {
-            return NULL;
+    for (*report = 0; *report <= SCM_REPORT_ABORT; (*report)++) {
+        if (strcmp(text, scm_report_text(*report)) == 0) {  /* what is said of a number that is no report is more than one word */
+            return true;
         }
     }
-    return "a report is disabled, ready, record, playback or abort";
+    return fault_say(fault, FAULT_INPUT, "a report is disabled, ready, record, playback or abort");
 }
 
-/* Two hex digits for each byte, with or without blanks between them. A line is too short for more than MOST_BYTES. */
-static const char *read_bytes(const char *text, struct event *event)
+/* Two hex digits for each byte, with or without blanks between them. A line is too short for more bytes than there is room for. */
+static bool script_bytes(const char *text, uint8_t *bytes, size_t *length, struct fault *fault)
 {
-    static const char digits[] = "0123456789ABCDEF0123456789abcdef";
+    static const char digits[] = DIGITS "ABCDEF" DIGITS "abcdef";
 
-    event->bytes = bytes;
     for (text += strspn(text, BLANKS); *text != '\0'; text += 2 + strspn(text + 2, BLANKS)) {
         const char *high = strchr(digits, text[0]);
         const char *low = text[1] == '\0' ? NULL : strchr(digits, text[1]);
         if (high == NULL || low == NULL) {
-            return "a byte is two hex digits";
+            return fault_say(fault, FAULT_INPUT, "a byte is two hex digits");
         }
-        bytes[event->length++] = (uint8_t)((high - digits) % 16 * 16 + (low - digits) % 16);
+        bytes[(*length)++] = (uint8_t)((high - digits) % 16 * 16 + (low - digits) % 16);
     }
-    return event->length > 0 ? NULL : "bytes are missing";
+    return *length > 0 || fault_say(fault, FAULT_INPUT, "bytes are missing");
 }
 
-/* Cuts the line up: a word for each field; bytes take all that is left. */
-static const char *read_event(char *line, struct event *event)
+/* Cuts the next word off the rest of the line, which ends where one of these bytes stands; NULL where there is none. */
+static char *script_word(char **rest, const char *ends)
 {
-    const char *word = strtok(line, BLANKS);
+    char *word = *rest + strspn(*rest, ends);
+    size_t length = strcspn(word, ends);
 
-    *event = (struct event){0};
+    *rest = word + length;
+    if (**rest != '\0') {
+        *(*rest)++ = '\0';
+    }
+    return length > 0 ? word : NULL;
+}
+
+/* A word for each field; bytes take all that is left. */
+static bool script_field(struct script *script, char field, char **rest, struct event *event, struct fault *fault)
+{
+    char *word = script_word(rest, field == 'b' ? "" : BLANKS);
+
+    if (word == NULL) {
+        return fault_say(fault, FAULT_INPUT, "a word is missing");
+    }
+    switch (field) {
+    case 's': return script_number(word, &event->slot, fault);
+    case 'n': return script_name(word, &event->name, fault);
+    case 'r': return script_report(word, &event->report, fault);
+    case 'm': return script_number(word, &event->mm, fault);
+    default: return script_bytes(word, script->bytes, &event->length, fault);
+    }
+}
+
+static bool script_event(struct script *script, char *rest, struct event *event, struct fault *fault)
+{
+    const char *word = script_word(&rest, BLANKS);
+    bool ok = true;
+
+    *event = (struct event){.bytes = script->bytes};
     while (event->kind < EVENT_KINDS && strcmp(word, event_forms[event->kind].word) != 0) {
         event->kind++;
     }
     if (event->kind == EVENT_KINDS) {
-        return "no known event";
+        return fault_say(fault, FAULT_INPUT, "no known event");
     }
-    for (const char *field = event_forms[event->kind].fields; *field != '\0'; field++) {
-        const char *text = strtok(NULL, *field == 'b' ? "" : BLANKS);
-        const char *reason = text == NULL ? "a word is missing"
-                           : *field == 's' ? read_number(text, &event->slot)
-                           : *field == 'n' ? read_name(text, &event->name)
-                           : *field == 'r' ? read_report(text, &event->report)
-                           : *field == 'm' ? read_number(text, &event->mm) : read_bytes(text, event);
-        if (reason != NULL) {
-            return reason;
-        }
+    for (const char *field = event_forms[event->kind].fields; ok && *field != '\0'; field++) {
+        ok = script_field(script, *field, &rest, event, fault);
     }
-    return strtok(NULL, BLANKS) == NULL ? NULL : "more words than the event has";
+    return ok && (script_word(&rest, BLANKS) == NULL || fault_say(fault, FAULT_INPUT, "more words than the event has"));
 }
 
-static const char *run_line(struct terminal *terminal, char *line)
+/* Runs the event that stands in the words of a line; whatever number it gives is written down, or held to the file. */
+static bool script_words(struct script *script, char *words, struct fault *fault)
 {
     struct event event;
-    struct outcome outcome;
-    const char *reason;
+    struct event_outcome outcome;
 
-    if (strncmp(line, "#=", 2) == 0) {
-        return NULL;
+    if (!script_event(script, words, &event, fault)) {
+        return false;
     }
-    line[strcspn(line, "\n")] = '\0';
-    fprintf(terminal->log, "%s\n", line);
-    line[strcspn(line, "#")] = '\0';
-    if (line[strspn(line, BLANKS)] == '\0') {
-        return NULL;
+    event_run(&script->master, &event, &outcome);
+    event_outcome_text(&event, &outcome, &script->given);
+    script->met = 0;
+    script->events++;
+    if (script->out != NULL) {
+        fputs(script->given.bytes, script->out);
     }
-    reason = read_event(line, &event);
-    if (reason == NULL) {
-        run_event(terminal, &event, &outcome);              /* whatever number it gives is written down */
-    }
-    return reason;
+    return true;
 }
 
-int script_run(struct terminal *terminal, const char *path)
+/* The next line that the last event gave must be this one: a line with #=, or for any other line and the end of the file none, of length 0. */
+static bool script_meets(struct script *script, const char *expected, size_t length, struct fault *fault)
 {
-    static char line[LINE_BYTES];
-    const char *reason = NULL;
-    unsigned long number = 0;
-    FILE *file = fopen(path, "rb");
+    const char *given = script->given.bytes + script->met;
+    bool more = script->met < script->given.length;
+    size_t next = more ? strcspn(given, "\n") : 0;
 
-    while (file != NULL && reason == NULL && fgets(line, sizeof line, file) != NULL) {
-        number++;
-        reason = strchr(line, '\n') == NULL && !feof(file) ? "the line is too long, or holds a zero byte" : run_line(terminal, line);
+    if (next != length || memcmp(given, expected, length) != 0) {
+        return fault_say(fault, FAULT_RUN, "expected: %.*s, got: %.*s", length > 0 ? (int)length : 12, length > 0 ? expected : "nothing more",
+                         more ? (int)next : 12, more ? given : "nothing more");
     }
-    if (file == NULL || ferror(file)) {
-        reason = "the file cannot be read";
+    script->met += more ? next + 1 : 0;
+    return true;
+}
+
+/* Of a line the words before a remark are an event. One with #= is passed over where what the events give is written, else it is held to that. */
+static bool script_line(struct script *script, struct fault *fault)
+{
+    char *line = script->line;
+    bool check = script->out == NULL;
+    bool given = script->length >= 2 && memcmp(line, "#=", 2) == 0;
+    char *remark = memchr(line, '#', script->length);
+    size_t words = remark == NULL || (given && check) ? script->length : (size_t)(remark - line);
+
+    if (memchr(line, '\0', words) != NULL) {
+        return fault_say(fault, FAULT_INPUT, "a zero byte belongs to no word");
     }
-    if (file != NULL) {
-        fclose(file);
+    if (check && !script_meets(script, line, given ? script->length : 0, fault)) {
+        return false;
     }
-    if (reason != NULL) {
-        fflush(terminal->log);
-        fprintf(stderr, "terminal: %s, line %lu: %s\n", path, number, reason);
+    if (given) {
+        return true;
     }
-    return reason == NULL ? 0 : 2;
+    if (!check) {
+        fwrite(line, 1, script->length, script->out);       /* a remark may hold any byte */
+        putc('\n', script->out);
+    }
+    line[words] = '\0';
+    return line[strspn(line, BLANKS)] == '\0' || script_words(script, line, fault);
+}
+
+/* The next line, without its end; false with no fault at the end of the file. */
+static bool script_next(struct script *script, FILE *file, struct fault *fault)
+{
+    int byte = getc(file);
+
+    if (byte == EOF) {
+        return ferror(file) != 0 && fault_say(fault, FAULT_INPUT, "the file cannot be read");
+    }
+    script->number++;
+    for (script->length = 0; byte != '\n' && byte != EOF && script->length < SCRIPT_LINE_BYTES; byte = getc(file)) {
+        script->line[script->length++] = (char)byte;
+    }
+    script->line[script->length] = '\0';
+    return byte == '\n' || byte == EOF || fault_say(fault, FAULT_INPUT, "the line is too long");
+}
+
+bool script_run(struct script *script, const char *path, FILE *out, struct fault *fault)
+{
+    FILE *file = fopen(path, "rb");
+    struct fault inner = {FAULT_NONE, ""};
+
+    *script = (struct script){.out = out};
+    scm_init(&script->master);
+    if (file == NULL) {
+        return fault_say(fault, FAULT_INPUT, "%s: the file cannot be opened", path);
+    }
+    while (inner.kind == FAULT_NONE && script_next(script, file, &inner) && script_line(script, &inner)) {
+    }
+    fclose(file);
+    if (inner.kind == FAULT_NONE && out == NULL) {
+        script->number++;                                   /* what is missing at the end would stand on the next line */
+        script_meets(script, "", 0, &inner);
+    }
+    return inner.kind == FAULT_NONE || fault_say(fault, inner.kind, "%s, line %lu: %s", path, script->number, inner.text);
 }

@@ -1,187 +1,345 @@
-/* A terminal over include/scm.h, to try and to copy. It plays a drill of two clients: records one plot end, replays it at twenty, and prints the
-   plot sheet with the inspector's three answers. It also runs a file of events. */
+/* A terminal over include/scm.h, to try and to copy. It plays a drill of two clients: records one plot end, and replays it at twenty. */
+#include <stdarg.h>
 #include <string.h>
 
 #include "host.h"
 
-void must(const char *what, uint8_t number)
+#define SILENT_TICKS 10u            /* a client that has not answered a command for so long is named; the playback ends after SCM_ANSWER_TICKS */
+#define STATE_BYTES 8u              /* a state's object in a pool */
+
+bool terminal_make(struct terminal *t, FILE *log, struct fault *fault)
 {
-    if (number != SCM_OK) {
-        fail("%s: number %u, %s", what, (unsigned)number, scm_number_text(number));
+    *t = (struct terminal){.drill.mute = POOL_CLIENTS, .log = log};
+    scm_init(&t->master);
+    ticker_simulated(&t->ticker);
+    return pool_make(POOL_DRILL, &t->clients[POOL_DRILL], fault) && pool_make(POOL_FAN, &t->clients[POOL_FAN], fault);
+}
+
+static void terminal_remark(struct terminal *t, const char *format, ...)
+{
+    va_list values;
+
+    if (t->log != NULL) {
+        va_start(values, format);
+        vfprintf(t->log, format, values);
+        va_end(values);
     }
 }
 
-scm_message message_of(uint32_t side, uint8_t kind, const uint8_t *bytes)
+/* An event that must give this number. */
+static bool terminal_expect(struct terminal *t, struct event event, uint8_t number, struct fault *fault)
 {
-    scm_message message;
+    struct event_text text;
 
-    must("reading a message", scm_message_read(side, bytes, 8, &message));
-    if (message.kind != kind) {
-        fail("a message of kind %u instead of %u", (unsigned)message.kind, (unsigned)kind);
+    if (t->log != NULL) {
+        event_write(t->log, &event);
     }
-    return message;
+    event_run(&t->master, &event, &t->outcome);
+    event_outcome_text(&event, &t->outcome, &text);
+    terminal_remark(t, "%s", text.bytes);
+    return t->outcome.number == number
+        || fault_say(fault, FAULT_RUN, "%s: %.*s", event_forms[event.kind].word, (int)strcspn(text.bytes, "\n") - 3, text.bytes + 3);
 }
 
-/* An event that must be done. */
-static struct outcome demand(struct terminal *terminal, struct event event)
+static bool terminal_do(struct terminal *t, struct event event, struct fault *fault)
 {
-    struct outcome outcome;
-
-    if (terminal->log != NULL) {
-        write_event(terminal->log, &event);
-    }
-    must(event_forms[event.kind].word, run_event(terminal, &event, &outcome));
-    return outcome;
+    return terminal_expect(t, event, SCM_OK, fault);
 }
 
-/* On a drill each client reports by itself, several times a second. */
-static void all_report(struct terminal *terminal, uint32_t report)
+/* All attached clients report. On a drill each does so by itself, several times a second. */
+static bool terminal_all_report(struct terminal *t, uint8_t report, struct fault *fault)
 {
-    for (uint32_t slot = 0; slot < CLIENTS; slot++) {
-        demand(terminal, (struct event){.kind = REPORT, .slot = slot, .report = report});
+    bool ok = true;
+
+    for (uint32_t slot = 0; ok && slot < POOL_CLIENTS; slot++) {
+        scm_slot_view view;
+        ok = fault_unless_done(fault, "slot", scm_slot(&t->master, slot, &view))
+          && (view.taken == 0 || terminal_do(t, (struct event){.kind = EVENT_REPORT, .slot = slot, .report = report}, fault));
     }
+    return ok;
 }
 
-/* The master is switched on, the clients' pools have come, and the operator enables the clients. */
-static void set_up(struct terminal *terminal)
+/* A client's pool has come. */
+static struct event terminal_pool(const struct terminal *t, uint32_t slot)
 {
-    scm_init(&terminal->master);
-    demand(terminal, (struct event){.kind = ON});
-    for (uint32_t slot = 0; slot < CLIENTS; slot++) {
-        const struct client *client = &clients[slot];
-        scm_verdict verdict = scm_pool_check(client->pool, client->length);
-        if (verdict.code != SCM_POOL_TAKEN) {
-            fail("the pool of slot %" PRIu32 ": code %02X, object %04X, %s", slot, verdict.code, verdict.object, scm_pool_code_text(verdict.code));
-        }
-        demand(terminal, (struct event){.kind = ATTACH, .slot = slot, .name = client->name, .bytes = client->pool, .length = client->length});
-        demand(terminal, (struct event){.kind = ENABLE, .slot = slot});
+    const struct pool *pool = &t->clients[slot];
+
+    return (struct event){.kind = EVENT_ATTACH, .slot = slot, .name = pool->name, .bytes = pool->bytes, .length = pool->length};
+}
+
+/* A client's pool has come, and the operator wants the client. */
+static bool terminal_join(struct terminal *t, uint32_t slot, struct fault *fault)
+{
+    return terminal_do(t, terminal_pool(t, slot), fault) && terminal_do(t, (struct event){.kind = EVENT_ENABLE, .slot = slot}, fault);
+}
+
+static bool terminal_set_up(struct terminal *t, struct fault *fault)
+{
+    return terminal_do(t, (struct event){.kind = EVENT_ON}, fault) && terminal_join(t, POOL_DRILL, fault) && terminal_join(t, POOL_FAN, fault)
+        && terminal_all_report(t, SCM_REPORT_READY, fault);
+}
+
+/* Ticks are called by the clock: each one that is called is counted. */
+static bool terminal_tick(struct terminal *t, uint32_t mm, struct fault *fault)
+{
+    t->ticker.called++;
+    return terminal_do(t, (struct event){.kind = EVENT_TICK, .mm = mm}, fault);
+}
+
+/* What the clients indicate up to this tick. An E.5 may say no though the number is 0: so it is looked at. */
+static bool terminal_indications(struct terminal *t, uint32_t tick, uint32_t depth, struct fault *fault)
+{
+    struct event event;
+    scm_message answer;
+    bool ok = true;
+
+    while (ok && drill_indicates(&t->drill, tick, depth, &event)) {
+        ok = terminal_do(t, event, fault) && event_message(SCM_MASTER, SCM_INDICATION_RESPONSE, t->outcome.out, &answer, fault)
+          && (answer.step.error == SCM_INDICATION_TAKEN
+              || fault_say(fault, FAULT_RUN, "an indication was not recorded: %s", scm_indication_error_text(answer.step.error)));
     }
-    all_report(terminal, SCM_REPORT_READY);
+    return ok;
 }
 
 /* The driver drives one plot end by hand, at 140 mm a tick, which is 5 km/h, and the clients indicate what he does. */
-static void record_plot_end(struct terminal *terminal, uint32_t depth)
+static bool terminal_record(struct terminal *t, uint32_t depth, struct fault *fault)
 {
-    struct event event;
-    size_t said = 0;
+    bool ok = terminal_do(t, (struct event){.kind = EVENT_RECORD}, fault) && terminal_all_report(t, SCM_REPORT_RECORD, fault);
+    uint32_t tick = 0;
+    uint32_t due;
 
-    demand(terminal, (struct event){.kind = RECORD});
-    all_report(terminal, SCM_REPORT_RECORD);
-    for (uint32_t tick = 1; said < INDICATIONS; tick++) {
-        demand(terminal, (struct event){.kind = TICK, .mm = 140});
-        for (; drill_indicates(said, tick, depth, &event); said++) {
-            struct outcome outcome = demand(terminal, event);
-            if (message_of(SCM_MASTER, SCM_INDICATION_RESPONSE, outcome.out).step.error != 0) {
-                fail("an indication was not recorded");
-            }
-        }
-        if (tick == DRIVER_STOPS) {
-            demand(terminal, (struct event){.kind = STOP});
+    drill_begins(&t->drill, 0);
+    while (ok && t->drill.said < DRILL_INDICATIONS) {
+        ok = ticker_due(&t->ticker, &due, fault);
+        for (; ok && due > 0; due--) {
+            tick++;
+            ok = terminal_tick(t, 140, fault) && terminal_indications(t, tick, depth, fault)
+              && (tick != DRILL_STOPS || terminal_do(t, (struct event){.kind = EVENT_STOP}, fault));
         }
     }
-    if (scm_state(&terminal->master) != SCM_READY) {
-        fail("the recording did not end");
-    }
-    all_report(terminal, SCM_REPORT_READY);
+    return ok && (scm_state(&t->master) == SCM_READY || fault_say(fault, FAULT_RUN, "the recording did not end"))
+        && terminal_all_report(t, SCM_REPORT_READY, fault);
 }
 
 /* The millimetres driven in a tick: each plot has its speed, and it varies within the plot. */
-static uint32_t driven(unsigned plot, uint32_t tick)
+static uint32_t terminal_driven(unsigned plot, uint32_t tick)
 {
-    static const uint32_t speeds[PLOTS] = {140, 131, 118, 152, 163, 127, 109, 145, 170, 136, 122, 158, 174, 113, 148, 133, 166, 105, 141, 155};
+    static const uint32_t speeds[SHEET_PLOTS] = {140, 131, 118, 152, 163, 127, 109, 145, 170, 136, 122, 158, 174, 113, 148, 133, 166, 105, 141, 155};
     static const uint32_t more[8] = {0, 3, 7, 9, 8, 4, 1, 2};
 
-    return speeds[plot] + more[(tick + plot) % 8];
+    return speeds[plot % SHEET_PLOTS] + more[(tick + plot) % 8];
 }
 
-/* A tick every 100 ms; its frames go to the clients, whose answers come in before the next tick; until the master is ready again. */
-static void replay_plot_end(struct terminal *terminal, unsigned plot, struct sheet *sheet)
+/* The E.7s that have come up to a tick, and the E.8s to send. */
+static bool terminal_answers(struct terminal *t, uint32_t tick, struct fault *fault)
 {
     struct event event;
+    bool ok = true;
 
-    drill_begins(plot);
-    sheet->plots = plot + 1;
-    demand(terminal, (struct event){.kind = START});
-    all_report(terminal, SCM_REPORT_PLAYBACK);
-    for (uint32_t tick = 1; scm_state(&terminal->master) == SCM_PLAYBACK; tick++) {
-        uint32_t mm = driven(plot, tick);
-        struct outcome outcome = demand(terminal, (struct event){.kind = TICK, .mm = mm});
-        if (scm_state(&terminal->master) == SCM_ABORT) {
-            break;
-        }
-        sheet_tick(sheet, mm, &outcome);
-        for (uint32_t i = 0; i < outcome.count; i++) {
-            drill_takes(tick, outcome.frames + SCM_FRAME_BYTES * i);
-        }
-        while (drill_answers(tick, &event)) {
-            outcome = demand(terminal, event);
-            sheet_answer(sheet, &event, &outcome);
-        }
+    while (ok && drill_answers(&t->drill, tick, &event)) {
+        ok = terminal_do(t, event, fault) && (t->sheet == NULL || sheet_answer(t->sheet, &event, &t->outcome, fault));
     }
-    if (scm_state(&terminal->master) != SCM_READY) {
-        fail("plot %u: the playback ended in an abort", plot + 1);
-    }
-    sheet_check(sheet);
-    all_report(terminal, SCM_REPORT_READY);
+    return ok;
 }
 
-static void end_file(FILE *file, const char *path)
+/* For how many ticks a command has had no answer, the longest, and who has to give it; 0 where none waits. */
+static uint32_t terminal_silence(const struct terminal *t, char who[128])
 {
-    bool broken = ferror(file) != 0;
+    scm_progress_view progress = scm_progress(&t->master);
+    char client[POOL_TEXT_BYTES];
+    scm_step_view step;
+    scm_sent_view sent;
 
-    if (fclose(file) != 0 || broken) {
-        fail("%s cannot be written", path);
+    for (size_t i = 0; i < progress.count && scm_sent(&t->master, i, &sent) == SCM_OK && scm_step(&t->master, i, &step) == SCM_OK; i++) {
+        if (sent.answer == SCM_UNANSWERED && step.slot < POOL_CLIENTS) {
+            pool_client_text(&t->clients[step.slot], client);
+            snprintf(who, 128, "%s (slot %u) for step %zu", client, (unsigned)step.slot, i + 1);
+            return progress.ticks - sent.left;              /* they left one after the other: the first one found has waited longest */
+        }
     }
+    return 0;
 }
 
-/* The whole story. With a log, the events are written to it instead of the sheet; picture is a path, or NULL. */
-static void play(uint32_t depth, const char *picture, FILE *log)
-{
-    static struct terminal terminal;
-    static struct sheet sheet;
+/* The frames of the ticks that are called at once. A frame that comes in more than one of them is sent once. */
+struct terminal_frames {
+    size_t count, again;
+    uint8_t frames[SCM_STEPS][SCM_FRAME_BYTES];
+};
 
-    terminal.log = log;
-    set_up(&terminal);
-    record_plot_end(&terminal, depth);
-    sheet_recorded(&sheet, &terminal.master);
-    for (unsigned plot = 0; plot < PLOTS; plot++) {
-        replay_plot_end(&terminal, plot, &sheet);
-    }
-    if (log == NULL) {
-        sheet_print(&sheet);
-    }
-    if (picture != NULL) {
-        FILE *file = fopen(picture, "w");
-        if (file == NULL) {
-            fail("%s cannot be written", picture);
+static void terminal_collect(struct terminal_frames *box, const struct event_outcome *outcome)
+{
+    for (uint32_t i = 0; i < outcome->count; i++) {
+        const uint8_t *frame = outcome->frames + SCM_FRAME_BYTES * i;
+        size_t k = 0;
+        while (k < box->count && memcmp(box->frames[k], frame, SCM_FRAME_BYTES) != 0) {
+            k++;
         }
-        picture_write(file, &sheet);
-        end_file(file, picture);
+        if (k < box->count) {
+            box->again++;
+        } else if (k < SCM_STEPS) {
+            memcpy(box->frames[box->count++], frame, SCM_FRAME_BYTES);
+        }
     }
 }
 
-static const char usage[] =
-    "usage: terminal [DEPTH [PICTURE.svg]]   play the drill and print the plot sheet; the depth is 0 to 1000 tenths of a millimetre, or else 240\n"
-    "       terminal --log DEPTH             the same, but print its events\n"
-    "       terminal --events FILE           run a file of events\n";
-
-int main(int argc, char **argv)
+/* One tick. A client that has not answered for long is named while there is time, and again where the tick ends the playback for it. */
+static bool terminal_one_tick(struct terminal *t, struct terminal_frames *box, struct fault *fault)
 {
-    bool log = argc == 3 && strcmp(argv[1], "--log") == 0;
-    uint32_t depth = 240;
-    int status = 0;
+    uint32_t mm = terminal_driven(t->drill.plot, scm_progress(&t->master).ticks + 1);
+    bool playing = scm_state(&t->master) == SCM_PLAYBACK;
+    char who[128];
+    uint32_t silent = terminal_silence(t, who);
 
-    if (argc == 3 && strcmp(argv[1], "--events") == 0) {
-        static struct terminal terminal;
-        scm_init(&terminal.master);
-        terminal.log = stdout;
-        status = script_run(&terminal, argv[2]);
-    } else if (argc > 3 || (argc > 1 && read_number(argv[log ? 2 : 1], &depth) != NULL) || depth > function_of(DRILL, COULTERS).maximum) {
-        fprintf(stderr, "%s", usage);
-        return 2;
-    } else {
-        play(depth, argc == 3 && !log ? argv[2] : NULL, log ? stdout : NULL);
+    if (silent == SILENT_TICKS) {
+        terminal_remark(t, "# no answer for %" PRIu32 " ticks: %s\n", silent, who);
     }
-    end_file(stdout, "standard output");
-    return status;
+    if (!terminal_tick(t, mm, fault)) {
+        return false;
+    }
+    terminal_collect(box, &t->outcome);
+    if (scm_state(&t->master) == SCM_ABORT && silent == SCM_ANSWER_TICKS) {
+        snprintf(t->why, sizeof t->why, "no answer in time: %s", who);
+        terminal_remark(t, "# %s\n", t->why);
+    }
+    return !playing || scm_state(&t->master) != SCM_PLAYBACK || t->sheet == NULL || sheet_tick(t->sheet, mm, &t->outcome, fault);
+}
+
+/* A turn of the terminal: it waits for the clock, hands over what came before, calls a tick for each 100 ms that have passed, in whatever state, sends
+   the frames, each once, and hands over what comes before the next tick. */
+static bool terminal_turn(struct terminal *t, struct fault *fault)
+{
+    struct terminal_frames box = {.count = 0};
+    uint32_t tick = scm_progress(&t->master).ticks;
+    uint32_t due;
+    bool ok = ticker_due(&t->ticker, &due, fault) && terminal_answers(t, tick + due - 1, fault);
+
+    for (uint32_t called = 0; ok && called < due; called++) {
+        ok = terminal_one_tick(t, &box, fault);
+    }
+    if (ok && due > 1) {
+        terminal_remark(t, "# late: %" PRIu32 " ticks at once; frames sent: %zu, the same again and not sent twice: %zu\n", due, box.count, box.again);
+    }
+    for (size_t i = 0; ok && i < box.count; i++) {
+        ok = drill_takes(&t->drill, tick + due, box.frames[i], fault);
+    }
+    t->at_once = ok && due > t->at_once ? due : t->at_once;
+    return ok && (scm_state(&t->master) != SCM_PLAYBACK || terminal_answers(t, tick + due, fault));
+}
+
+/* Turns until the playback has ended, or so many ticks have been called. */
+static bool terminal_turns(struct terminal *t, uint32_t ticks, struct fault *fault)
+{
+    uint32_t until = t->ticker.called + ticks;
+    bool ok = true;
+
+    while (ok && scm_state(&t->master) == SCM_PLAYBACK && t->ticker.called < until) {
+        ok = terminal_turn(t, fault);
+    }
+    return ok;
+}
+
+static bool terminal_replay(struct terminal *t, unsigned plot, uint32_t ticks, struct fault *fault)
+{
+    drill_begins(&t->drill, plot);
+    snprintf(t->why, sizeof t->why, "not for want of an answer");
+    if (t->sheet != NULL) {
+        t->sheet->plots++;
+    }
+    return terminal_do(t, (struct event){.kind = EVENT_START}, fault) && terminal_all_report(t, SCM_REPORT_PLAYBACK, fault)
+        && terminal_turns(t, ticks, fault);
+}
+
+/* From abort to ready: the clients report abort, and then ready. */
+static bool terminal_back_to_ready(struct terminal *t, struct fault *fault)
+{
+    return terminal_all_report(t, SCM_REPORT_ABORT, fault) && (scm_state(&t->master) == SCM_READY || fault_say(fault, FAULT_RUN, "the abort did not end"))
+        && terminal_all_report(t, SCM_REPORT_READY, fault);
+}
+
+bool terminal_play(struct terminal *t, uint32_t depth, struct sheet *sheet, struct fault *fault)
+{
+    bool ok = terminal_set_up(t, fault) && terminal_record(t, depth, fault) && sheet_recorded(sheet, t->clients, &t->master, fault);
+
+    t->sheet = sheet;
+    for (unsigned plot = 0; ok && plot < SHEET_PLOTS; plot++) {
+        ok = terminal_replay(t, plot, SCM_LAST_TICK, fault)
+          && (scm_state(&t->master) == SCM_READY || fault_say(fault, FAULT_RUN, "plot %u: the playback ended in an abort: %s", plot + 1, t->why))
+          && sheet_check(sheet, fault) && terminal_all_report(t, SCM_REPORT_READY, fault);
+    }
+    return ok;
+}
+
+bool terminal_live(struct terminal *t, uint32_t seconds, struct fault *fault)
+{
+    bool ok = terminal_set_up(t, fault) && terminal_record(t, 240, fault) && ticker_real(&t->ticker, fault);
+    uint32_t last = 10 * seconds;
+
+    for (unsigned plot = 0; ok && t->ticker.called < last; plot++) {
+        ok = terminal_replay(t, plot, last - t->ticker.called, fault)
+          && (scm_state(&t->master) != SCM_PLAYBACK || terminal_do(t, (struct event){.kind = EVENT_ABORT}, fault))
+          && (scm_state(&t->master) == SCM_ABORT ? terminal_back_to_ready(t, fault) : terminal_all_report(t, SCM_REPORT_READY, fault));
+    }
+    return ok;
+}
+
+/* ---- What goes wrong on a field. The log is a file of events like every other. */
+
+static bool terminal_refused_pool(struct terminal *t, struct fault *fault)
+{
+    struct event cut = terminal_pool(t, POOL_FAN);
+    bool ok;
+
+    terminal_remark(t, "# What goes wrong on a field, and how the terminal goes on, as terminal --mishaps prints it. Remarks in small letters are its own.\n\n"
+                    "# The fan's pool comes without its last object, which its function lists. It is refused: D.9 has the code and the object.\n");
+    cut.length -= STATE_BYTES;
+    ok = terminal_do(t, (struct event){.kind = EVENT_ON}, fault) && terminal_expect(t, cut, SCM_POOL_REFUSED, fault);
+    terminal_remark(t, "\n# It comes again, whole, and so does the drill's: D.9 has code 00 and object FFFF. One plot end is recorded.\n");
+    return ok && terminal_join(t, POOL_FAN, fault) && terminal_join(t, POOL_DRILL, fault) && terminal_all_report(t, SCM_REPORT_READY, fault)
+        && terminal_record(t, 240, fault);
+}
+
+static bool terminal_stopped(struct terminal *t, struct fault *fault)
+{
+    terminal_remark(t, "\n# The operator stops a replay. The master is ready again when every enabled client has reported abort; then they report ready.\n");
+    return terminal_replay(t, 0, 5, fault) && terminal_do(t, (struct event){.kind = EVENT_ABORT}, fault) && terminal_back_to_ready(t, fault);
+}
+
+static bool terminal_silent_client(struct terminal *t, struct fault *fault)
+{
+    bool ok;
+
+    terminal_remark(t, "\n# The drill's controller still reports its state, but answers no command: it is named, and the replay ends in an abort.\n");
+    t->drill.mute = POOL_DRILL;
+    ok = terminal_replay(t, 0, SCM_LAST_TICK, fault);
+    t->drill.mute = POOL_CLIENTS;
+    return ok && terminal_back_to_ready(t, fault);
+}
+
+/* How long to wait for a status message is the host's choice; then the client is lost, and joins again as a new one does. */
+static bool terminal_lost_client(struct terminal *t, struct fault *fault)
+{
+    bool ok;
+
+    terminal_remark(t, "\n# The fan's status message has not come in time: it is lost. Its slot is empty, and the replay ends in an abort.\n");
+    ok = terminal_replay(t, 0, 5, fault) && terminal_do(t, (struct event){.kind = EVENT_LOST, .slot = POOL_FAN}, fault) && terminal_back_to_ready(t, fault);
+    terminal_remark(t, "\n# Without the fan a start is refused; with it again the sequence, which has stayed, is replayed to its end.\n");
+    return ok && terminal_expect(t, (struct event){.kind = EVENT_START}, SCM_NOT_ENABLED, fault) && terminal_join(t, POOL_FAN, fault)
+        && terminal_all_report(t, SCM_REPORT_READY, fault) && terminal_replay(t, 0, SCM_LAST_TICK, fault) && terminal_all_report(t, SCM_REPORT_READY, fault);
+}
+
+static bool terminal_held_up(struct terminal *t, struct fault *fault)
+{
+    bool ok;
+
+    terminal_remark(t, "\n# The terminal is held up for half a second after tick 3: five ticks are called at once, and no frame is sent twice for them.\n");
+    ok = terminal_replay(t, 0, 3, fault);
+    t->ticker.late = 400;
+    return ok && terminal_turns(t, SCM_LAST_TICK, fault);
+}
+
+bool terminal_mishaps(struct terminal *t, struct fault *fault)
+{
+    return terminal_refused_pool(t, fault) && terminal_stopped(t, fault) && terminal_silent_client(t, fault) && terminal_lost_client(t, fault)
+        && terminal_held_up(t, fault)
+        && (scm_state(&t->master) == SCM_READY || fault_say(fault, FAULT_RUN, "the replay after a delay did not end in ready"));
 }
