@@ -1,7 +1,8 @@
 /* scm.h: the master (SCM) of ISO 11783-14, for a terminal's host in C. Link with libscm.a; HOST.md is the guide, with an example of a whole program.
 
    Every call takes all input: any numbers, any bytes, in any order. It never traps and always returns. What it refuses, it refuses by a number of
-   enum scm_number; then the master and every lent byte are as they were. There is no start-up call, no global, no heap and no thread here.
+   enum scm_number (scm_pool_check by a code of D.9; scm_object_at and scm_profile_of, which take any bytes, give nothing of what they cannot read);
+   then the master and every lent byte are as they were. There is no start-up call, no global, no heap and no thread here.
 
    Pointers. A pointer that comes with a length (pool, msg, bytes, out, frames) is lent memory: it points to that many bytes, and is not NULL, even
    where the length is 0. A master, and an object or a message that is to be written, is not NULL. What a call reads and what it writes do not
@@ -12,8 +13,8 @@
    output is written with number 0 alone, and only where the call says; its other bytes stay.
 
    Wrappers. The archive takes and gives structs by value. The inline functions here stand over its calls (scm_on over scm_master_on) and do nothing
-   but hand over and copy; they are what a host calls and what is explained. A call on a master takes up to 130 KB of stack; HOST.md has each
-   one's. */
+   but hand over and copy what is wanted; they are what a host calls and what is explained. A call on a master takes up to 130 KB of stack; HOST.md
+   has each one's. */
 #ifndef SCM_H
 #define SCM_H
 
@@ -156,19 +157,21 @@ static inline const char *scm_pool_code_text(uint8_t code)
 /* A pool's judgement. */
 typedef struct scm_verdict {
     uint8_t code;                   /* enum scm_pool_code */
-    uint16_t object;                /* the first faulty object; 0xFFFF with SCM_POOL_TAKEN, and where no object is to be named */
+    uint16_t object;                /* the object that the code names; 0xFFFF with SCM_POOL_TAKEN, for a pool that is too long, and where fewer
+                                       than 3 bytes are left for an object */
 } scm_verdict;
 
 /* Judges any bytes at all as a client's pool, by the rules by which scm_attach judges it, and keeps nothing. More than SCM_POOL_BYTES give 0xFF and
-   0xFFFF, none at all 0x02 and 0. Writes no memory. Afterwards: code and object are what a D.9 says. */
+   0xFFFF, none at all 0x02 and 0. Of several faults one is named: HOST.md has their order, and which object each names. Writes no memory. Afterwards:
+   code and object are what a D.9 says. */
 SCM_MUST_USE scm_verdict scm_pool_check(const uint8_t *pool, size_t pool_len);
 
-/* scm_object.kind: the object's type as it stands in byte 3 of the tables, or none. */
+/* scm_object.kind: the object's type, as it stands at offset 2 of its bytes, or none. */
 enum scm_object_kind {
     SCM_OBJECT_BASE = 0,            /* table A.1 */
     SCM_OBJECT_FUNCTION = 1,        /* table A.2 */
     SCM_OBJECT_STATE = 2,           /* table A.3 */
-    SCM_OBJECT_NONE = 255           /* past the end, or cut, or illegal: next is the place, all else is 0 */
+    SCM_OBJECT_NONE = 255           /* past the end, or cut, or illegal: place and next are the place, all else is 0 */
 };
 
 /* scm_object.trigger: by what the mark of a step of this function is counted when it is recorded. */
@@ -225,9 +228,9 @@ typedef struct scm_placed {
 SCM_MUST_USE scm_placed scm_write_object(scm_object object, size_t place, uint8_t *out, size_t out_len);
 
 /* Writes an object's bytes at a place of out. A pool is made by writing its objects one after the other, each at the next of the one before, from
-   place 0; the last next is the pool's length. Set the struct to 0 first: fields that the kind does not have are not looked at, nor are place and
-   next, but every cell after a label and after the list has to be 0, and so have all cells of what the kind lacks: the labels of a function, labels
-   and list of a state.
+   place 0; the last next is the pool's length. Set the struct to 0 first: numbers that the kind does not have are not looked at, nor are place and
+   next; but in version, configuration and list every cell that is not in use has to be 0: those after a label and after the list, all cells of both
+   labels of a function, and all cells of labels and list of a state. So a state with count 255 is written, and one with list[0] = 1 gives 4.
 
      0  the bytes from place up to *next are the object's, the other bytes of out stay
      1  no room: place + size is above out_len. The size goes by the fields as given: base 27 + n + m + 2 * count, function 30 + 2 * count, state 8,
@@ -285,7 +288,8 @@ SCM_MUST_USE scm_profile scm_profile_of(const uint8_t *pool, size_t pool_len);
 
    C and D messages are read and written; which answer to give is the host's choice. Of the E messages, the calls on a master read E.3, E.4 and E.7
    and write E.2, E.5, E.6 and E.8 themselves: a host hands over the bytes as they came and sends the bytes as they were written. It reads what was
-   written to see what it says. */
+   written to see what it says. HOST.md has the bytes of D.9 and of the E messages. Where a byte of a message is named here as the standard names it,
+   it is counted from 1; msg[2] and out[3] count from 0. */
 
 /* The side that sent a message: the message's code means another message on the other side. */
 enum scm_side {
@@ -309,7 +313,8 @@ enum scm_kind {
                                                 Written by scm_transfer_write; scm_message_write gives 4 */
     SCM_TRANSFER_RESPONSE = 10,     /* D.7  <-  code: 0 none, 1 error while transferring, 255 other */
     SCM_ACTIVATION_COMMAND = 11,    /* D.8  -> */
-    SCM_POOL_ACKNOWLEDGEMENT = 12,  /* D.9  <-  code: 0 to 12, 255, enum scm_pool_code; object: the first at fault, 65535 with code 0 */
+    SCM_POOL_ACKNOWLEDGEMENT = 12,  /* D.9  <-  code: 0 to 12, 255, enum scm_pool_code; object: the one at fault, to be 65535 with code 0, but any
+                                                is read and written */
     SCM_DELETE_COMMAND = 13,        /* D.10 ->  code: 0 volatile memory, 1 non-volatile */
     SCM_DELETE_RESPONSE = 14,       /* D.11 <-  code: 0 none, 1 no such pool, 255 other */
     SCM_STORE_COMMAND = 15,         /* D.12 -> */
@@ -325,8 +330,8 @@ enum scm_kind {
     SCM_ANSWER_ACKNOWLEDGEMENT = 25 /* E.8  <-  step: function, state, status, tan */
 };
 
-/* scm_message_step.status, bits 7 and 8 of byte 3; any other number gives 4 where the message has a status. Also scm_taken_view.status, where
-   SCM_STARTED is a step that is open: begun and not yet done. */
+/* scm_message_step.status, bits 7 and 8 of byte 3 (msg[2] >> 6); any other number gives 4 where the message has a status. Also
+   scm_taken_view.status, where SCM_STARTED is a step that is open: begun and not yet done. */
 enum scm_status {
     SCM_AT_ONCE = 0,                /* 00: started and done at once; a one-shot step */
     SCM_STARTED = 1,                /* 01: started */
@@ -580,7 +585,7 @@ SCM_MUST_USE static inline uint8_t scm_shown(uint32_t value, int32_t offset, flo
                                                  --abort--> abort --every enabled client reports abort--> ready
 
    slot       a place for a client, 0 to 7: empty, or taken by a client that was attached.
-   wanted     the operator wants the client: since scm_enable, until scm_disable.
+   wanted     the operator wants the client: since scm_enable, until scm_disable, or until its slot is emptied.
    enabled    wanted, and its last report is another than disabled. A client's last report is disabled when it is attached, so scm_enable alone
               enables nobody: the client has to report something else.
    recording  what is taken from scm_record on. It has its own steps; the sequence stays as it was until the recording ends and has kept a step.
@@ -923,7 +928,8 @@ SCM_MUST_USE static inline uint8_t scm_disable(scm_master *m, size_t slot, uint8
      4  state is none of enum scm_reports: 3, or above 5
      3  slot above 7 or empty
      2  inactive
-     5  the client is not wanted, its last report is disabled, and this one is not: not expected, not kept
+     5  the client is not wanted, its last report is disabled, and this one is not: not expected, not kept. So it is with every report of a client
+        that is ready before the operator wants it. Whether a status message gets a NACK is annex F's to say, which is the host's
 
    Afterwards look at scm_state. Of a client that was enabled before this report:
      in record and record complete, disabled: the recording is thrown away, to ready, the old sequence stays. Any other report is just kept: while it
@@ -959,7 +965,7 @@ SCM_MUST_USE static inline uint8_t scm_lost(scm_master *m, size_t slot)
      0   the state is record. A tick every 100 ms from now on
      2   not in ready
      14  no client is enabled: after scm_enable a client has to report, see there
-     12  an enabled client's last report is not ready. Clients that are not enabled do not count
+     12  an enabled client's last report is not ready. Clients that are not enabled do not count; scm_slot shows whose it is
 
    Afterwards: tell the clients by the status message. A client's E.4s give 5 until it has reported record. scm_progress and scm_taken show what is
    recorded; scm_step_count and scm_step stay the old sequence's until the recording ends. */
@@ -1030,7 +1036,7 @@ SCM_MUST_USE static inline uint8_t scm_indication(scm_master *m, size_t slot, co
     return scm_moved_on(m, &o);
 }
 
-/* E.3 has come, msg as it came: a client wants the playback to end. Whatever its error.
+/* E.3 has come, msg as it came: a client wants the playback to end. Each error of enum scm_abort_error ends it alike.
 
      0  the state is abort: tell the clients by the status message
      4  msg is no E.3: not 8 bytes, another code, or an error that is none of enum scm_abort_error
@@ -1078,7 +1084,8 @@ SCM_MUST_USE static inline uint8_t scm_abort(scm_master *m)
 
 /* 100 ms have passed, in which mm millimetres were driven. In every active state; it counts in record, record complete and playback, and may end an
    abort.
-   Fills frames[0] to frames[575]: *count frames of nine bytes (the slot, then the eight of an E.6), and 0 after them; bytes past them stay.
+   Fills frames[0] to frames[575]: *count frames of nine bytes (the slot, then the eight of an E.6), and 0 after them; bytes past these 576 stay.
+   There is room for 64 frames, as document 01 has it; no tick has more than 8.
 
      0  counted. Send each of the *count frames once, to the client of its slot: frames[9 * i], and from frames[9 * i + 1] on the E.6
      1  frames_len is below SCM_FRAMES_BYTES
@@ -1093,8 +1100,8 @@ SCM_MUST_USE static inline uint8_t scm_abort(scm_master *m)
    be 0 while some are.
    In record and record complete: tick 36,000 throws the recording away, to ready; the old sequence stays.
    In abort: to ready, where every enabled client's last report is abort.
-   Afterwards: scm_state; scm_progress and scm_sent for the screen. A refused tick has counted nothing: hand its millimetres over with the next
-   one. */
+   Afterwards: scm_state; scm_progress and scm_sent for the screen. In abort they show nothing of the playback any more: a host that is to say which
+   client gave no answer asks them before the tick. A refused tick has counted nothing: hand its millimetres over with the next one. */
 SCM_MUST_USE static inline uint8_t scm_tick(scm_master *m, uint32_t mm, uint8_t *frames, size_t frames_len, uint32_t *count)
 {
     scm_outcome o = scm_master_tick(*m, mm, frames, frames_len);
@@ -1258,8 +1265,8 @@ SCM_MUST_USE static inline uint8_t scm_sent(const scm_master *m, size_t i, scm_s
     return r.number;
 }
 
-/* Why a start would be refused, in every state, without starting: the number of the first check that does not hold, in scm_start's order, with its
-   slot and step. In ready, scm_start gives exactly this number.
+/* Why a start is refused, to the screen, in every state and without starting: the number of the first check that does not hold, in scm_start's order,
+   with its slot and step. In ready, scm_start gives exactly this number; in every other state it gives 2.
 
      0         every check holds; *view is all 0
      7         the sequence has no step; *view is all 0

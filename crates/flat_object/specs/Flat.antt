@@ -58,7 +58,7 @@ flatKind k place f = record {
 abbrev pub flatObject : ℕ → Found → FlatObject
 flatObject place f = flatKind (f .object .kind) place f
 
--- ---- and back: fields that its kind does not have are not looked at, nor are `place` and `next`
+-- ---- and back: of the numbers those that the kind has, and neither `place` nor `next`; the cells of labels and list, whatever the kind is
 
 abbrev pub baseFrom : FlatObject → BaseHead
 baseFrom f = record {

@@ -10,7 +10,7 @@ use Rattle.flat_object.specs.declared.FlatObject.{FlatObject}
 use Rattle.flat_object.specs.Flat.{flatObject, kindFrom, flatKind, objectFrom}
 
 pub record ReadBack : Type 0 where
-  -- an object of a pool, made flat and back, is the same object: so what `object_at` read, `write` writes again
+  -- an object of a pool, made flat and back, is the same object
   pub back : (f : Found) (place : ℕ) (h : Head) → f .object .kind ≡ Of h → objectFrom (flatObject place f) ≡ f .object
   -- what `write` wrote at a place, `object_at` reads there: each field that its kind has, and 0 in the others
   pub again :

@@ -1,5 +1,5 @@
--- What a terminal reads of the master for its screen and for the status message. A reader is handed the part of the master that it reads: copying is all
--- that it costs.
+-- What a terminal reads of the master for its screen and for the status message. A reader is handed the part of the master that it reads; one that
+-- reads the slots, the whole.
 use Prim.Native.Nat.{ℕ, min}
 use lib.Dec.{eqb, leb}
 use lib.ListN.{getD}

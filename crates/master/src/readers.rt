@@ -1,4 +1,5 @@
-// What a terminal reads of the master for its screen and for the status message. A reader is handed the part of the master that it reads.
+// What a terminal reads of the master for its screen and for the status message. A reader is handed the part of the master that it reads; one that
+// reads the slots, the whole.
 ghost use mathlib.Core.Path.{_≡_};
 ghost use Rattle.master.specs.Readers.{stateOf, slotView, stepView, clientView, verifyView, progressOf, takenView, sentView};
 use crate::ABORT;

@@ -1,5 +1,6 @@
 pub mod Pairs
 pub mod Failing
+pub mod Each
 pub mod BySlot
 pub mod Labels
 pub mod Fill

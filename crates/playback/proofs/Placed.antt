@@ -1,18 +1,16 @@
--- The slot and the step that are named: where a list of checks made of others fails, it fails with the first of them that does.
-use Prim.Native.Nat.{ℕ, zero, suc, _≤_, _<_}
-use mathlib.Core.Path.{_≡_, refl, sym, ap, subst, _∙_}
-use mathlib.Core.Bool.{Bool, true, false, not, _||_, true≢false}
+-- The slot and the step that are named are those of the check.
+use Prim.Native.Nat.{ℕ, _≤_, _<_}
+use mathlib.Core.Path.{_≡_, refl, sym, ap, _∙_}
+use mathlib.Core.Bool.{Bool, true, false, not}
 use mathlib.Core.Logic.{_⊎_, inl, inr}
-use mathlib.Core.List.{List, [], _∷_, _++_, flatMap}
+use mathlib.Core.List.{List, _++_, flatMap}
 use native.Mathlib.Omega.{arith}
 use lib.Dec.{eqb}
 use lib.ListN.{length, getD, length-take}
 use lib.Seq.{getD-take}
-use borrow.Author.Tests.{eq-eqb, ne-eqb, eqb-true, le-leb}
+use borrow.Author.Tests.{ne-eqb, le-leb}
 use Rattle.octets.specs.Pick.{pick}
-use Rattle.arrays.specs.Arrays.{some, firstFrom}
-use Rattle.arrays.proofs.Every.{Found, first-is}
-use Rattle.arrays.proofs.First.{first-before, first-same}
+use Rattle.arrays.proofs.First.{first-same}
 use Rattle.client.specs.{Clients.blankSlot, Records.blankRecord, declared.Client.Client, declared.ClientRecord.ClientRecord}
 use Rattle.sequence.specs.{Sequence.blankStep, Sequence.lengthOf, Sequence.stepsOf, declared.Step.Step, declared.Sequence.Sequence}
 use Rattle.playback.specs.Pairs.{pairs}
@@ -20,59 +18,8 @@ use Rattle.playback.specs.Verification.{Check, firstFailing, namesAgree,
 use Rattle.playback.specs.Named.{lowestSlot, firstMissing, namedBy, namedOf}
 use Rattle.playback.specs.Places.{Cells, LowestFails, FirstMissing, Places}
 use Rattle.playback.proofs.Pairs.{length-pairs, getD-pairs}
+use Rattle.playback.proofs.Each.{first-fails}
 use Rattle.playback.proofs.Failing.{Within, Numbered, found, passed, within-all, within-wider, within-first, client-within, step-within, ready-within, client-numbered, step-numbered, ready-numbered}
-
--- ---- checks of each element of a list
-
-module _ {X : Type 0} (f : X → List Check) (numbered : (x : X) → Numbered (f x)) where
-  failing : X → Bool
-  failing x = not (eqb (firstFailing (f x)) 0)
-
-  holding : (x : X) → failing x ≡ false → firstFailing (f x) ≡ 0
-  unfolding failing
-  holding x h = go (eqb (firstFailing (f x)) 0) refl h
-    where
-      go : (b : Bool) → eqb (firstFailing (f x)) 0 ≡ b → not b ≡ false → firstFailing (f x) ≡ 0
-      go true e h = eqb-true _ _ e
-      go false e h = absurd (true≢false h)
-
-  not-holding : (x : X) → failing x ≡ true → firstFailing (f x) ≡ 0 → ⊥
-  unfolding failing
-  not-holding x h e = true≢false (sym h ∙ rw (eq-eqb _ _ e))
-
-  -- where none fails, all hold
-  none-fails : (l : List X) → some failing l ≡ false → firstFailing (flatMap f l) ≡ 0
-  unfolding flatMap firstFailing
-  none-fails [] h = refl
-  none-fails (x ∷ l) h = let k = either (failing x) h in passed (f x) (flatMap f l) (numbered x) (holding x (k .0)) ∙ none-fails l (k .1)
-    where
-      either : (b : Bool) → (b || some failing l) ≡ false → (b ≡ false) × (some failing l ≡ false)
-      either true h = absurd (true≢false h)
-      either false h = (refl, h)
-
-  -- the first that fails decides
-  decides : (l : List X) (k : ℕ) (d : X) → k < length l → ((j : ℕ) → j < k → firstFailing (f (getD l j d)) ≡ 0) → (firstFailing (f (getD l k d)) ≡ 0 → ⊥)
-      → firstFailing (f (getD l k d)) ≡ firstFailing (flatMap f l)
-  unfolding flatMap
-  decides [] k d h b z = absurd (omega arith)
-  decides (x ∷ l) zero d h b z = sym (found (f x) (flatMap f l) z)
-  decides (x ∷ l) (suc k) d h b z = decides l k d (omega arith) (λ j i. b (suc j) (omega arith)) z ∙ sym (passed (f x) (flatMap f l) (numbered x) (b 0 (omega arith)))
-
-  -- k is the number of the first that fails
-  abbrev First : List X → X → ℕ → Type 0
-  First l d k =
-      (k < length l) × (firstFailing (f (getD l k d)) ≡ firstFailing (flatMap f l)) × ((j : ℕ) → j < k → firstFailing (f (getD l j d)) ≡ 0)
-
-  pub first-fails : (none : ℕ) (l : List X) (d : X) → (firstFailing (flatMap f l) ≡ 0 → ⊥) → First l d (firstFrom none (λ x. not (eqb (firstFailing (f x)) 0)) 0 l)
-  unfolding failing
-  first-fails none l d bad = go (first-is failing none 0 l d)
-    where
-      go : Found failing none 0 l d → First l d (firstFrom none failing 0 l)
-      go (inl h) = absurd (bad (none-fails l (h .1)))
-      go (inr (k, e, s, t)) =
-          let z : firstFrom none failing 0 l ≡ k = omega arith in
-          let before : (j : ℕ) → j < k → firstFailing (f (getD l j d)) ≡ 0 = λ j h. holding (getD l j d) (first-before none failing 0 l d j (omega arith) (omega arith)) in
-          subst (First l d) (sym z) (s, decides l k d s before (not-holding (getD l k d) t), before)
 
 -- ---- the checks of a start: which list decides
 

@@ -25,7 +25,7 @@ lowestSlot checks slots records = firstFrom slotCount (fails checks) 0 (pairs sl
 unfoldable pub firstMissing : List Client → List Step → ℕ
 firstMissing slots steps = firstFrom mostSteps (λ s. not (isInPool slots s)) 0 steps
 
--- the step with 11; the slot with 11 the step's, with 12 and with 8, 9 and 10 the client's; 0 where the number has none
+-- the step with 11; the slot with 11 the step's, with 12 and with 8, 9 and 10 the client's; 0 where a number that a start gives has none
 unfoldable pub namedBy : ℕ → List Client → Sequence → Named
 namedBy number slots q =
     let step : ℕ = pick (eqb number notInPool) (firstMissing slots (stepsOf q)) 0 in

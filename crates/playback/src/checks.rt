@@ -9,11 +9,10 @@ ghost use Rattle.arrays.specs.Arrays.{firstFrom};
 ghost use Rattle.client.specs.Clients.{slotCount};
 ghost use Rattle.sequence.specs.Sequence.{mostSteps, stepsOf};
 ghost use Rattle.playback.specs.Pairs.{pairs};
-ghost use Rattle.playback.specs.Verification.{firstFailing, agreeUnder, mastersAgree, namesAgree, sameBytes, sameLabel, labelsAgree, askedSlot, isMissing, clientChecks, stepChecks, readyChecks};
+ghost use Rattle.playback.specs.Verification.{firstFailing, agreeUnder, mastersAgree, namesAgree, sameBytes, sameLabel, labelsAgree, askedSlot, isMissing, clientChecks, stepChecks};
 use arrays::at_most;
 use client::Client;
 use client::ClientRecord;
-use client::READY;
 use client::SLOTS;
 use octets::has_bit;
 use octets::label::Label;
@@ -22,7 +21,6 @@ use octets::numbers::LABEL_DIFFERS;
 use octets::numbers::NAME_DIFFERS;
 use octets::numbers::NOT_ENABLED;
 use octets::numbers::NOT_IN_POOL;
-use octets::numbers::NOT_READY;
 use profile::Profile;
 use sequence::MOST_STEPS;
 use sequence::Sequence;
@@ -123,8 +121,8 @@ fn is_missing(step: Step, slot: usize, listed: bool) -> bool
     (at_most(own, SLOTS - 1) == slot) & !((own < SLOTS) & listed)
 }
 
-// The first step that is missing in the pool of this slot. By slot, not by step: a pool is handed over 8 times and not 64 times.
-pub fn first_missing(
+// The first step that is missing in the pool of this slot, 64 where none is. By slot, not by step: a pool is handed over 8 times and not 64 times.
+pub fn first_missing_in(
     profile: Profile,
     slot: usize,
     steps: [Step; MOST_STEPS],
@@ -163,25 +161,11 @@ pub fn first_check(slots: [Client; SLOTS], sequence: Sequence) -> u8
         if number != DONE {
             return number;
         }
-        missing = missing | (first_missing(profile, i, steps, sequence.count) < MOST_STEPS);
+        missing = missing | (first_missing_in(profile, i, steps, sequence.count) < MOST_STEPS);
         i += 1;
     }
     if missing {
         return NOT_IN_POOL;
-    }
-    DONE
-}
-
-// 12, of the slots of the sequence.
-pub fn first_ready_check(slots: [Client; SLOTS], records: [ClientRecord; SLOTS]) -> u8
-    ensures { λ r. ⌜ r ≡ firstFailing (flatMap readyChecks (pairs slots records)) ⌝ }
-{
-    let mut i: usize = 0;
-    while i < SLOTS {
-        if (records[i].used != 0) & (slots[i].report != READY) {
-            return NOT_READY;
-        }
-        i += 1;
     }
     DONE
 }

@@ -20,6 +20,7 @@ use message::fields::status_number;
 use octets::numbers::DONE;
 use octets::numbers::NO_MATCH;
 use octets::numbers::NO_STEP;
+use octets::numbers::NOT_READY;
 use sequence::LAST_TICK;
 use sequence::MOST_STEPS;
 use sequence::Sequence;
@@ -110,7 +111,10 @@ pub fn verify(slots: [Client; SLOTS], sequence: Sequence) -> u8
         return number;
     }
     let records = sequence.records;
-    checks::first_ready_check(slots, records)
+    if named::lowest_not_ready(slots, records) < SLOTS {
+        return NOT_READY;
+    }
+    DONE
 }
 
 // The same with its slot and its step.

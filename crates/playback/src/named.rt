@@ -5,7 +5,7 @@ ghost use Rattle.sequence.specs.Sequence.{blankStep};
 ghost use Rattle.playback.specs.Verification.{namesAgree, clientChecks, readyChecks};
 ghost use Rattle.playback.specs.Named.{lowestSlot, firstMissing, namedBy};
 use crate::checks::client_check;
-use crate::checks::first_missing;
+use crate::checks::first_missing_in;
 use arrays::at_most;
 use client::Client;
 use client::ClientRecord;
@@ -19,7 +19,7 @@ use sequence::MOST_STEPS;
 use sequence::Sequence;
 use sequence::Step;
 
-// slot is that of 8, 9, 10, 11 and 12, step that of 11; else they are 0.
+// Of the numbers that a start gives, slot is that of 8, 9, 10, 11 and 12, step that of 11; else they are 0.
 #[repr(C)]
 pub struct Named {
     pub number: u8,
@@ -27,7 +27,7 @@ pub struct Named {
     pub step: usize,
 }
 
-// The lowest slot of which 8, 9 or 10 does not hold.
+// The lowest slot of which 8, 9 or 10 does not hold, 8 where there is none.
 fn lowest_failing(slots: [Client; SLOTS], records: [ClientRecord; SLOTS]) -> usize
     ensures { λ r. ⌜ r ≡ lowestSlot (clientChecks namesAgree) slots records ⌝ }
 {
@@ -41,8 +41,8 @@ fn lowest_failing(slots: [Client; SLOTS], records: [ClientRecord; SLOTS]) -> usi
     SLOTS
 }
 
-// The lowest slot of which 12 does not hold.
-fn lowest_not_ready(slots: [Client; SLOTS], records: [ClientRecord; SLOTS]) -> usize
+// The lowest slot of which 12 does not hold, 8 where there is none.
+pub fn lowest_not_ready(slots: [Client; SLOTS], records: [ClientRecord; SLOTS]) -> usize
     ensures { λ r. ⌜ r ≡ lowestSlot readyChecks slots records ⌝ }
 {
     let mut i: usize = 0;
@@ -55,8 +55,8 @@ fn lowest_not_ready(slots: [Client; SLOTS], records: [ClientRecord; SLOTS]) -> u
     SLOTS
 }
 
-// The first step of which 11 does not hold.
-fn first_not_in_pool(slots: [Client; SLOTS], steps: [Step; MOST_STEPS], count: usize) -> usize
+// The first step of which 11 does not hold, 64 where there is none.
+fn first_missing(slots: [Client; SLOTS], steps: [Step; MOST_STEPS], count: usize) -> usize
     ensures { λ r. ⌜ r ≡ firstMissing slots (take count steps) ⌝ }
 {
     let mut first: usize = MOST_STEPS;
@@ -64,7 +64,7 @@ fn first_not_in_pool(slots: [Client; SLOTS], steps: [Step; MOST_STEPS], count: u
     while i < SLOTS {
         let client = slots[i];
         let profile = client.profile;
-        first = at_most(first, first_missing(profile, i, steps, count));
+        first = at_most(first, first_missing_in(profile, i, steps, count));
         i += 1;
     }
     first
@@ -86,7 +86,7 @@ pub fn named_by(number: u8, slots: [Client; SLOTS], sequence: Sequence) -> Named
     let records = sequence.records;
     if number == NOT_IN_POOL {
         let steps = sequence.steps;
-        let step = first_not_in_pool(slots, steps, sequence.count);
+        let step = first_missing(slots, steps, sequence.count);
         return Named {
             number,
             slot: slot_of(steps, step),

@@ -279,7 +279,7 @@ pub extern "C" fn scm_master_answer(
     master.answer(slot, msg, out)
 }
 
-// ---- The readers: each takes the part of the master that it reads.
+// ---- The readers: each takes the part of the master that it reads, or the whole where it reads the slots.
 
 #[no_mangle]
 pub extern "C" fn scm_master_state(state: u8) -> u8

@@ -1,7 +1,11 @@
 -- `playback::verify` meets its contract: each list of checks is asked where those before it hold.
+use mathlib.Core.Path.{_≡_}
+use lib.ListN.{length}
 use borrow.Author.Needs.{needs}
+use Rattle.arrays.proofs.Pad.{length-mapped}
 use Rattle.playback.specs.Verification.{namesAgree, verifyOf}
 use Rattle.playback.proofs.Failing.{no-step, by-slot, by-ready}
+use Rattle.playback.proofs.Lowest.{not-ready, all-ready}
 use Rattle.playback.proofs.verify.Statement.{statement}
 use Rattle.playback.proofs.verify.Tie as tie
 
@@ -16,8 +20,22 @@ returns-2 c = by-slot namesAgree _ _ (c .before .before .if1 .left) _ (c .before
 returns-3 : tie.Need-returns-3
 unfolding verifyOf
 returns-3 c =
-    let d = c .before .before in
-    by-ready namesAgree _ _ (d .before .before .if1 .left) _ (d .before .first-check .ensures) (d .if2 .left) _ (c .first-ready-check .ensures)
+    let d = c .before .before .before in
+    let a = d .before .before .before .before .args in
+    let n : length (a .slots) ≡ 8 = search needs in
+    let k : length (a .sequence .records) ≡ 8 = search (needs, length-mapped) in
+    by-ready namesAgree _ _ (d .before .before .if1 .left) _ (d .before .first-check .ensures) (d .if2 .left) _
+    (not-ready _ _ n k _ (c .before .lowest-not-ready .ensures) (c .if3 .taken))
+
+returns-4 : tie.Need-returns-4
+unfolding verifyOf
+returns-4 c =
+    let d = c .before .before .before in
+    let a = d .before .before .before .before .args in
+    let n : length (a .slots) ≡ 8 = search needs in
+    let k : length (a .sequence .records) ≡ 8 = search (needs, length-mapped) in
+    by-ready namesAgree _ _ (d .before .before .if1 .left) _ (d .before .first-check .ensures) (d .if2 .left) _
+    (all-ready _ _ n k _ (c .before .lowest-not-ready .ensures) (c .if3 .left))
 
 pub verify-spec : {M : Type 1} → statement M
-verify-spec = tie.close (tie.spec returns (λ c κs. search needs) returns-2 (λ c κs. search needs) returns-3)
+verify-spec = tie.close (tie.spec returns (λ c κs. search needs) returns-2 (λ c κs. search needs) returns-3 returns-4)

@@ -88,7 +88,7 @@ module _ {M : Type 1} (𝓤 : URA M) (H : Heap 𝓤) (A : Atoms 𝓤) (W : Given
   abbrev Own : Fml
   Own = ShrSlice (named 0) κ u8 .own s (v ∷ [])
 
-  -- the call of `new`: what it is passed, what it asks, and what is known of its result
+  -- the call of `open`: what it is passed, what it asks, and what is known of its result
   abbrev to-new : New 𝓤 H A mem run .Ghost
   to-new = (((κ, tt), (q, tt), tt, (s, (n, tt)), at), tt)
 

@@ -54,7 +54,7 @@ loop-again c =
       v .1,
       omega arith,
       v .3 ∙ miss-of _ _ _ _ (v .0) (v .1) _ _ _ _ (omega arith) (e .before .client-check .ensures) (client-numbered namesAgree) (e .if1 .left),
-      v .4 ∙ turn _ (v .0) _ _ (omega arith) _ _ _ n (c .first-missing .ensures),
+      v .4 ∙ turn _ (v .0) _ _ (omega arith) _ _ _ n (c .first-missing-in .ensures),
     )
 
 returns-2 : tie.Need-returns-2 Inv-loop μ-loop

@@ -9,7 +9,7 @@ use Rattle.playback.proofs.named.named_by.Tie as tie
 
 returns : tie.Need-returns
 unfolding pick stepsOf namedBy
-returns c = rw (eq-eqb _ _ (c .before .before .before .if1 .taken), c .slot-of .ensures, c .before .first-not-in-pool .ensures)
+returns c = rw (eq-eqb _ _ (c .before .before .before .if1 .taken), c .slot-of .ensures, c .before .first-missing .ensures)
 
 returns-2 : tie.Need-returns-2
 unfolding pick namedBy

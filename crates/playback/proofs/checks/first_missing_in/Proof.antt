@@ -1,4 +1,4 @@
--- `playback::checks::first_missing` meets its contract: the steps from here on decide.
+-- `playback::checks::first_missing_in` meets its contract: the steps from here on decide.
 use mathlib.Core.Path.{_≡_, sym, _∙_}
 use Prim.Native.Nat.{_-_}
 use native.Mathlib.Omega.{arith}
@@ -7,8 +7,8 @@ use borrow.Author.Needs.{needs}
 use Rattle.arrays.specs.Arrays.{firstFrom}
 use Rattle.arrays.proofs.Walk.{rest, first-start, first-end, first-past, first-hit, first-miss}
 use Rattle.playback.specs.Verification.{isListed, isMissing}
-use Rattle.playback.proofs.checks.first_missing.Statement.{statement}
-use Rattle.playback.proofs.checks.first_missing.Tie as tie
+use Rattle.playback.proofs.checks.first_missing_in.Statement.{statement}
+use Rattle.playback.proofs.checks.first_missing_in.Tie as tie
 
 abbrev Inv-loop : tie.InvT-loop
 Inv-loop slot count profile steps i₀ i =
@@ -43,8 +43,8 @@ loop-again c =
 returns-3 : tie.Need-returns-3 Inv-loop μ-loop
 returns-3 c = sym (c .before .loop .inv .1 ∙ first-past _ _ _ _ _ (omega arith))
 
-pub first-missing-spec : {M : Type 1} → statement M
-first-missing-spec =
+pub first-missing-in-spec : {M : Type 1} → statement M
+first-missing-in-spec =
     tie.close
     (tie.spec
     Inv-loop μ-loop loop-holds returns (λ c. search needs) (λ c. search needs) (λ c. search needs) (λ c. search needs) (λ c. search needs) (λ c. search needs)

@@ -1,4 +1,4 @@
--- `playback::named::first_not_in_pool` meets its contract: the slots from here on decide, and the first step that was missing so far.
+-- `playback::named::first_missing` meets its contract: the slots from here on decide, and the first step that was missing so far.
 use mathlib.Core.Path.{_≡_, sym, ap, _∙_}
 use Prim.Native.Nat.{_-_, _≤_, min}
 use native.Mathlib.Omega.{arith}
@@ -6,8 +6,8 @@ use lib.ListN.{length, take, length-take}
 use borrow.Author.Needs.{needs}
 use Rattle.playback.specs.Named.{firstMissing}
 use Rattle.playback.proofs.BySlot.{first-left, first-start, first-end, first-turn}
-use Rattle.playback.proofs.named.first_not_in_pool.Statement.{statement}
-use Rattle.playback.proofs.named.first_not_in_pool.Tie as tie
+use Rattle.playback.proofs.named.first_missing.Statement.{statement}
+use Rattle.playback.proofs.named.first_missing.Tie as tie
 
 abbrev Inv-loop : tie.InvT-loop
 Inv-loop steps count slots first₀ i₀ first i =
@@ -32,7 +32,7 @@ loop-again c =
       v .1,
       omega arith,
       omega arith,
-      v .4 ∙ first-turn _ (v .0) _ _ (omega arith) _ _ _ _ (v .1) (c .before .first-missing .ensures) m,
+      v .4 ∙ first-turn _ (v .0) _ _ (omega arith) _ _ _ _ (v .1) (c .before .first-missing-in .ensures) m,
     )
 
 returns : tie.Need-returns Inv-loop μ-loop
@@ -44,8 +44,8 @@ returns c =
     let z : first-left (a .t1) (take (a .count) (a .steps)) (b .loop .i) ≡ 64 = ap (first-left _ _) e ∙ first-end _ _ in
     sym (v .4 ∙ omega arith)
 
-pub first-not-in-pool-spec : {M : Type 1} → statement M
-first-not-in-pool-spec =
+pub first-missing-spec : {M : Type 1} → statement M
+first-missing-spec =
     tie.close
     (tie.spec
     Inv-loop μ-loop loop-holds (λ c. search needs) (λ c. search needs) (λ c κs. search needs) (λ c κs. search needs)
