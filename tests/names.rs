@@ -61,10 +61,26 @@ pub fn run(arguments: &[&str]) {
             fail(&format!("{name} is {:?} in the header, wanted is {number}", header.get(name)));
         }
     }
-    if header.len() != wanted.len() {
-        fail("the header has other names");
+    for name in declared() {
+        if !wanted.contains_key(&name) {
+            fail(&format!("the header declares {name}, of which nothing is said here"));
+        }
     }
     println!("names: version {version} in the header and in the library; {} sizes, limits and codes as they must be", wanted.len());
+}
+
+/// Every enumerator of the header, which stands on a line of its own, and every macro that is a number, but for the version.
+fn declared() -> Vec<String> {
+    let lines = include_str!("../include/scm.h").lines();
+    let named = lines.filter_map(|line| {
+        let (name, number) = match line.strip_prefix("#define ") {
+            Some(macro_) => macro_.split_once(' ')?,
+            None => line.strip_prefix("    ")?.split_once(" = ")?,
+        };
+        let is_number = number.trim_start().starts_with(|first: char| first.is_ascii_digit());
+        (name.starts_with("SCM_") && name != "SCM_VERSION" && is_number).then(|| name.to_string())
+    });
+    named.collect()
 }
 
 fn fail(why: &str) -> ! {
