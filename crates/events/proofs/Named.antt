@@ -20,4 +20,6 @@ named = record {
   client = λ m g. places .client (m .slots) (m .sequence) (cells m g);
   step = λ m g. places .step (m .slots) (m .sequence) (cells m g);
   report = λ m g. places .report (m .slots) (m .sequence) (cells m g);
+  no-step = λ m. places .no-step (m .slots) (m .sequence);
+  no-slot = λ m. places .no-slot (m .slots) (m .sequence);
 }

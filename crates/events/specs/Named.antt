@@ -1,5 +1,5 @@
 -- Why a start is refused, to the screen: the reader `verify` names the check by which a start is refused, with its slot and its step, and starts nothing.
-use Prim.Native.Nat.{_≤_}
+use Prim.Native.Nat.{_≤_, _<_}
 use mathlib.Core.Path.{_≡_}
 use Rattle.octets.specs.Numbers.{notEnabled, labelDiffers, notInPool, notReady}
 use Rattle.playback.specs.Verification.{namesAgree, clientChecks, readyChecks}
@@ -20,3 +20,6 @@ pub record NamedCheck : Type 0 where
   -- with 12 the slot is the lowest of a client of the sequence that does not report ready
   pub report :
       (m : Master) → Given m → verifyView m .number ≡ notReady → LowestFails readyChecks (m .slots) (m .sequence .records) (verifyView m .slot) notReady
+  -- of every master: with any other number than 11 the step is 0, and with 0 and 7 the slot too
+  pub no-step : (m : Master) → (verifyView m .number ≡ notInPool → ⊥) → verifyView m .step ≡ 0
+  pub no-slot : (m : Master) → verifyView m .number < notEnabled → verifyView m .slot ≡ 0

@@ -145,13 +145,13 @@ ready-is slot c = go (isUsed c) (eqb (slot .report) readyReport)
 -- ---- the checks of a start: which list is asked
 
 module _ (agree : Rule) (slots : List Client) (q : Sequence) where
-  abbrev clients : List Check
+  abbrev pub clients : List Check
   clients = flatMap (clientChecks agree) (pairs slots (q .records))
 
-  abbrev steps : List Check
+  abbrev pub steps : List Check
   steps = flatMap (stepChecks slots) (stepsOf q)
 
-  abbrev reports : List Check
+  abbrev pub reports : List Check
   reports = flatMap readyChecks (pairs slots (q .records))
 
   clients-numbered : Numbered clients

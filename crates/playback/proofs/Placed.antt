@@ -8,7 +8,7 @@ use native.Mathlib.Omega.{arith}
 use lib.Dec.{eqb}
 use lib.ListN.{length, getD, length-take}
 use lib.Seq.{getD-take}
-use borrow.Author.Tests.{ne-eqb, le-leb}
+use borrow.Author.Tests.{ne-eqb, le-leb, lt-leb}
 use Rattle.octets.specs.Pick.{pick}
 use Rattle.arrays.proofs.First.{first-same}
 use Rattle.client.specs.{Clients.blankSlot, Records.blankRecord, declared.Client.Client, declared.ClientRecord.ClientRecord}
@@ -19,7 +19,7 @@ use Rattle.playback.specs.Named.{lowestSlot, firstMissing, namedBy, name
 use Rattle.playback.specs.Places.{Cells, LowestFails, FirstMissing, Places}
 use Rattle.playback.proofs.Pairs.{length-pairs, getD-pairs}
 use Rattle.playback.proofs.Each.{first-fails}
-use Rattle.playback.proofs.Failing.{Within, Numbered, found, passed, within-all, within-wider, within-first, client-within, step-within, ready-within, client-numbered, step-numbered, ready-numbered}
+use Rattle.playback.proofs.Failing.{Within, Numbered, clients, steps, reports, found, passed, within-all, within-wider, within-first, client-within, step-within, ready-within, client-numbered, step-numbered, ready-numbered}
 
 -- ---- the checks of a start: which list decides
 
@@ -43,27 +43,21 @@ decided a b c x y z = by-first (within-first 8 10 a x)
     by-first (inr r) = let h = r .0 in let l = r .1 in let k = found a (b ++ c) (λ n. omega arith) in inl (k, omega arith, omega arith)
 
 module _ (slots : List Client) (q : Sequence) where
-  abbrev clients : List Check
-  clients = flatMap (clientChecks namesAgree) (pairs slots (q .records))
+  -- what is known of the number
+  abbrev Which : ℕ → Type 0
+  Which v = (v ≡ 7) ⊎ Decided (clients namesAgree slots q) (steps namesAgree slots q) (reports namesAgree slots q) v
 
-  abbrev steps : List Check
-  steps = flatMap (stepChecks slots) (stepsOf q)
-
-  abbrev reports : List Check
-  reports = flatMap readyChecks (pairs slots (q .records))
-
-  which : (verifyOf slots q ≡ 7) ⊎ Decided clients steps reports (verifyOf slots q)
+  which : Which (verifyOf slots q)
   unfolding pick firstFailing checksBy verifyOf
   which = go (eqb (q .count) 0)
     where
-      go : (b : Bool) → (pick (not b) (firstFailing (clients ++ (steps ++ reports))) 7 ≡ 7)
-          ⊎ Decided clients steps reports (pick (not b) (firstFailing (clients ++ (steps ++ reports))) 7)
+      go : (b : Bool) → Which (pick (not b) (firstFailing (clients namesAgree slots q ++ (steps namesAgree slots q ++ reports namesAgree slots q))) 7)
       go true = inl refl
       go false =
-          inr (decided clients steps reports (within-all 8 10 (clientChecks namesAgree) (client-within namesAgree) (pairs slots (q .records)))
+          inr (decided (clients namesAgree slots q) (steps namesAgree slots q) (reports namesAgree slots q) (within-all 8 10 (clientChecks namesAgree) (client-within namesAgree) (pairs slots (q .records)))
           (within-all 11 11 (stepChecks slots) (step-within slots) (stepsOf q)) (within-all 12 12 readyChecks ready-within (pairs slots (q .records))))
 
-  -- the slot that is named, and the step
+  -- the slot that is named with 8, 9 and 10
   named-client : (v : ℕ) → 8 ≤ v → v ≤ 10 → namedBy v slots q .slot ≡ lowestSlot (clientChecks namesAgree) slots (q .records)
   unfolding pick namedBy
   named-client v h k = rw (ne-eqb v 11 (λ e. omega arith), ne-eqb v 12 (λ e. omega arith), le-leb 8 v h)
@@ -90,7 +84,7 @@ module _ (slots : List Client) (q : Sequence) where
     unfolding namedOf
     client h k = rw (named-client (verifyOf slots q) h k) (go which)
       where
-        go : (verifyOf slots q ≡ 7) ⊎ Decided clients steps reports (verifyOf slots q)
+        go : Which (verifyOf slots q)
             → LowestFails (clientChecks namesAgree) slots (q .records) (lowestSlot (clientChecks namesAgree) slots (q .records)) (verifyOf slots q)
         go (inl e) = absurd (omega arith)
         go (inr (inl (e, f, k))) = lowest-fails (clientChecks namesAgree) (client-numbered namesAgree) (verifyOf slots q) e (λ z. omega arith)
@@ -102,7 +96,7 @@ module _ (slots : List Client) (q : Sequence) where
     unfolding pick namedOf namedBy
     report v = rw v (go which)
       where
-        go : (verifyOf slots q ≡ 7) ⊎ Decided clients steps reports (verifyOf slots q) → LowestFails readyChecks slots (q .records) (lowestSlot readyChecks slots (q .records)) 12
+        go : Which (verifyOf slots q) → LowestFails readyChecks slots (q .records) (lowestSlot readyChecks slots (q .records)) 12
         go (inl e) = absurd (omega arith)
         go (inr (inl (e, f, k))) = absurd (omega arith)
         go (inr (inr (inl (e, f)))) = absurd (omega arith)
@@ -141,7 +135,7 @@ module _ (slots : List Client) (q : Sequence) where
         go true e = absurd (omega arith)
         go false e = refl
 
-    missing : firstFailing steps ≡ 11
+    missing : firstFailing (steps namesAgree slots q) ≡ 11
         → FirstMissing slots q (getD (q .steps) (firstMissing slots (stepsOf q)) blankStep .slot) (firstMissing slots (stepsOf q))
     unfolding firstMissing
     missing e =
@@ -159,7 +153,7 @@ module _ (slots : List Client) (q : Sequence) where
     unfolding pick namedOf namedBy
     step v = rw v (go which)
       where
-        go : (verifyOf slots q ≡ 7) ⊎ Decided clients steps reports (verifyOf slots q)
+        go : Which (verifyOf slots q)
             → FirstMissing slots q (getD (q .steps) (firstMissing slots (stepsOf q)) blankStep .slot) (firstMissing slots (stepsOf q))
         go (inl e) = absurd (omega arith)
         go (inr (inl (e, f, k))) = absurd (omega arith)
@@ -171,6 +165,14 @@ module _ (slots : List Client) (q : Sequence) where
   unfolding namedOf namedBy
   number = refl
 
+  no-step : (verifyOf slots q ≡ 11 → ⊥) → namedOf slots q .step ≡ 0
+  unfolding pick namedOf namedBy
+  no-step h = rw (ne-eqb (verifyOf slots q) 11 h)
+
+  no-slot : verifyOf slots q < 8 → namedOf slots q .slot ≡ 0
+  unfolding pick namedOf namedBy
+  no-slot h = rw (ne-eqb (verifyOf slots q) 11 (λ e. omega arith), ne-eqb (verifyOf slots q) 12 (λ e. omega arith), lt-leb 8 (verifyOf slots q) h)
+
 pub places : Places
 unfolding namedOf namedBy
-places = record { number = number; client = client; step = step; report = report }
+places = record { number = number; client = client; step = step; report = report; no-step = no-step; no-slot = no-slot }

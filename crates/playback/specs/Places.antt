@@ -40,3 +40,6 @@ pub record Places : Type 0 where
   pub step : (slots : List Client) (q : Sequence) → Cells slots q → namedOf slots q .number ≡ notInPool → FirstMissing slots q (namedOf slots q .slot) (namedOf slots q .step)
   -- 12
   pub report : (slots : List Client) (q : Sequence) → Cells slots q → namedOf slots q .number ≡ notReady → LowestFails readyChecks slots (q .records) (namedOf slots q .slot) notReady
+  -- any other number than 11 has no step, and 0 and 7 have no slot
+  pub no-step : (slots : List Client) (q : Sequence) → (namedOf slots q .number ≡ notInPool → ⊥) → namedOf slots q .step ≡ 0
+  pub no-slot : (slots : List Client) (q : Sequence) → namedOf slots q .number < notEnabled → namedOf slots q .slot ≡ 0
