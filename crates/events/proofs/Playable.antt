@@ -19,8 +19,7 @@ use Rattle.client.specs.declared.ClientRecord.{ClientRecord}
 use Rattle.sequence.specs.Sequence.{blankStep, stepsOf}
 use Rattle.sequence.specs.declared.Step.{Step}
 use Rattle.sequence.specs.declared.Sequence.{Sequence}
-use Rattle.recording.specs.Kept.{isOf}
-use Rattle.recording.specs.Promises.{SoundSequence}
+use Rattle.sequence.specs.Sound.{isOf, SoundSequence}
 use Rattle.recording.proofs.Steps.{both}
 use Rattle.playback.specs.Pairs.{pairs}
 use Rattle.playback.specs.Verification.{Rule, namesAgree, labelsAgree, ofSequence, clientChecks, stepChecks, checksBy}

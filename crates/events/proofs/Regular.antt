@@ -16,7 +16,8 @@ use Rattle.sequence.specs.Sequence.{mostSteps, lastTick, blankStep, stepsOf, le
 use Rattle.sequence.specs.declared.Sequence.{Sequence}
 use Rattle.recording.specs.State.{blankRecording}
 use Rattle.recording.specs.Indication as recording
-use Rattle.recording.specs.Promises.{Sound, SoundSequence}
+use Rattle.sequence.specs.Sound.{SoundSequence}
+use Rattle.recording.specs.Promises.{Sound}
 use Rattle.recording.specs.declared.Recording.{Recording}
 use Rattle.recording.specs.declared.Heard.{Heard}
 use Rattle.recording.proofs.Steps.{both}

@@ -19,7 +19,8 @@ use Rattle.sequence.specs.Sequence.{blankStep, stepsOf}
 use Rattle.sequence.specs.declared.Step.{Step}
 use Rattle.sequence.specs.declared.Sequence.{Sequence}
 use Rattle.recording.specs.Indication.{status, heldOf}
-use Rattle.recording.specs.Kept.{stays, stepIn, stayed, isOf, recordKept, recordsFrom, sequenceOf, keptSequence}
+use Rattle.sequence.specs.Sound.{isOf}
+use Rattle.recording.specs.Kept.{stays, stepIn, stayed, recordKept, recordsFrom, sequenceOf, keptSequence}
 use Rattle.recording.specs.Promises.{Sound, startOf}
 use Rattle.recording.specs.declared.Taken.{Taken}
 use Rattle.recording.specs.declared.Recording.{Recording}

@@ -12,7 +12,8 @@ use Rattle.client.specs.Clients.{isTaken, isWanted}
 use Rattle.message.specs.declared.Status.the-variants.{AtOnce, Started, Done}
 use Rattle.sequence.specs.{Sequence.stepsOf, declared.Step.Step}
 use Rattle.recording.specs.Indication.{hasOpen}
-use Rattle.recording.specs.Promises.{Sound, SoundSequence}
+use Rattle.sequence.specs.Sound.{SoundSequence}
+use Rattle.recording.specs.Promises.{Sound}
 use Rattle.playback.specs.Promises.{Tidy}
 use Rattle.master.specs.{declared.Master.Master, Call.slotAt, Messages.executionIn, States.isRecording}
 use Rattle.master.specs.States as state

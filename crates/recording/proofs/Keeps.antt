@@ -17,9 +17,10 @@ use Rattle.client.specs.declared.ClientRecord.{ClientRecord}
 use Rattle.sequence.specs.Sequence.{blankStep, blankSequence, stepsOf}
 use Rattle.sequence.specs.declared.Step.{Step}
 use Rattle.sequence.specs.declared.Sequence.{Sequence}
+use Rattle.sequence.specs.Sound.{isOf, SoundSequence}
 use Rattle.recording.specs.Indication.{heldOf}
-use Rattle.recording.specs.Kept.{stays, stepIn, stayed, isOf, recordKept, recordsFrom, sequenceOf, keptSequence}
-use Rattle.recording.specs.Promises.{Sound, SoundSequence, Keeps, InOrder, isTakenOf}
+use Rattle.recording.specs.Kept.{stays, stepIn, stayed, recordKept, recordsFrom, sequenceOf, keptSequence}
+use Rattle.recording.specs.Promises.{Sound, Keeps, InOrder, isTakenOf}
 use Rattle.recording.specs.declared.Recording.{Recording}
 use Rattle.recording.proofs.Stayed.{stayed-fits}
 use Rattle.recording.proofs.Cases.{full}
@@ -58,7 +59,6 @@ sound-none =
     record {
       few = omega arith;
       blank = pad-none blankStep 64;
-      ordered = tt;
       within = tt;
       slots = refl;
       recorded = λ slot h. rw (getD-replicate 8 slot blankRecord blankRecord h) unused;
@@ -105,7 +105,6 @@ module _ (r : Recording) (old : Sequence) (s : Sound r) where
       record {
         few = fits;
         blank = ap (padTo blankStep 64) (sym kept-steps);
-        ordered = subst (EveryTwo InOrder) (sym kept-steps) (pairs-map stepIn InOrder (those stays (heldOf r)) (pairs-those _ stays (heldOf r) (s .ordered)));
         within = subst (Every (λ x. x .slot < 8)) (sym kept-steps) (every-map stepIn (λ x. x .slot < 8) (those stays (heldOf r)) (every-those _ stays (heldOf r) (s .within)));
         slots = records-length kept 0 (r .records) ∙ s .slots;
         recorded = λ slot h.
@@ -119,6 +118,11 @@ module _ (r : Recording) (old : Sequence) (s : Sound r) where
       go : (b : Bool) → some stays (heldOf r) ≡ b → SoundSequence (keptSequence r old)
       go true n = subst SoundSequence (sym (keeps-some n)) sound-sequence
       go false n = subst SoundSequence (sym (keeps-none n)) o
+
+  pub kept-ordered : some stays (heldOf r) ≡ true → EveryTwo InOrder (stepsOf (keptSequence r old))
+  kept-ordered n =
+      subst (EveryTwo InOrder) (sym (ap stepsOf (keeps-some n) ∙ kept-steps))
+      (pairs-map stepIn InOrder (those stays (heldOf r)) (pairs-those _ stays (heldOf r) (s .ordered)))
 
   kept-record : (slot : ℕ) (c : ClientRecord) → recordKept kept slot c ≡ pick (some (isOf slot) kept) c blankRecord
   unfolding recordKept

@@ -20,7 +20,8 @@ use Rattle.client.specs.declared.ClientRecord.{ClientRecord}
 use Rattle.client.specs.declared.Client.{Client}
 use Rattle.sequence.specs.declared.Step.{Step}
 use Rattle.recording.specs.Indication.{recordsAfter}
-use Rattle.recording.specs.Kept.{isOf, HasSlots, recordKept, recordsFrom}
+use Rattle.sequence.specs.Sound.{isOf}
+use Rattle.recording.specs.Kept.{HasSlots, recordKept, recordsFrom}
 
 -- the records when those before slot i are done
 pub halfway : List Step → ℕ → List ClientRecord → List ClientRecord

@@ -10,6 +10,7 @@ use Rattle.octets.specs.{Pick.pick, Bits.hasBit}
 use Rattle.arrays.specs.Arrays.{some, those, padTo}
 use Rattle.client.specs.{Clients.slotCount, Records.blankRecord, declared.ClientRecord.ClientRecord}
 use Rattle.sequence.specs.{Sequence.mostSteps, Sequence.blankStep, declared.Step.Step, declared.Sequence.Sequence}
+use Rattle.sequence.specs.Sound.{isOf}
 use Rattle.recording.specs.Indication.{oneShot, done, heldOf}
 use Rattle.recording.specs.{declared.Taken.Taken, declared.Recording.Recording, declared.Kept.Kept}
 
@@ -28,14 +29,11 @@ stayed l = map stepIn (those stays l)
 unfoldable pub stored : List Step → Kept
 stored l = record { count = length l; steps = padTo blankStep mostSteps l }
 
--- "dropped if none of its steps stays"
-abbrev pub isOf : ℕ → Step → Bool
-isOf slot s = eqb (s .slot) slot
-
 -- these bits are the slots of which there is a step
 abbrev pub HasSlots : ℕ → List Step → Type 0
 HasSlots bits l = (slot : ℕ) → slot < slotCount → hasBit bits slot ≡ some (isOf slot) l
 
+-- "dropped if none of its steps stays"
 unfoldable pub recordKept : List Step → ℕ → ClientRecord → ClientRecord
 recordKept l slot client = pick (some (isOf slot) l) client blankRecord
 

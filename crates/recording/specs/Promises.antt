@@ -12,11 +12,12 @@ use Rattle.message.specs.declared.Status.the-variants.{AtOnce, Started, Done}
 use Rattle.arrays.specs.{Arrays.some, Arrays.padTo, Every.Every, Every.EveryTwo}
 use Rattle.client.specs.{Clients.slotCount, declared.Client.Client, declared.ClientRecord.ClientRecord}
 use Rattle.client.specs.Records.{isUsed, blankRecord, recordOf}
-use Rattle.sequence.specs.Sequence.{mostSteps, blankStep, byDistance, blankSequence, stepsOf}
+use Rattle.sequence.specs.Sequence.{mostSteps, byDistance, blankSequence, stepsOf}
+use Rattle.sequence.specs.Sound.{isOf, SoundSequence}
 use Rattle.sequence.specs.{declared.Step.Step, declared.Sequence.Sequence}
 use Rattle.recording.specs.{State.blankTaken, State.blankRecording, declared.Taken.Taken, declared.Recording.Recording, declared.Heard.Heard}
 use Rattle.recording.specs.Indication.{oneShot, opened, isOpen, countedRecording, heldOf, stepAt, isStepOf, isSame, doneWith, recordsAfter, heardOf}
-use Rattle.recording.specs.Kept.{stays, stayed, isOf, keptSequence}
+use Rattle.recording.specs.Kept.{stays, stayed, keptSequence}
 
 -- ---- what is always so
 
@@ -53,16 +54,6 @@ pub record Sound (r : Recording) : Type 0 where
   pub recorded : (slot : ℕ) → slot < slotCount → isUsed (getD (r .records) slot blankRecord) ≡ some (isTakenOf slot) (heldOf r)
   pub unrecorded : (slot : ℕ) → slot < slotCount → some (isTakenOf slot) (heldOf r) ≡ false → getD (r .records) slot blankRecord ≡ blankRecord
 
-pub record SoundSequence (q : Sequence) : Type 0 where
-  pub few : q .count ≤ mostSteps
-  pub blank : q .steps ≡ padTo blankStep mostSteps (stepsOf q)
-  pub ordered : EveryTwo InOrder (stepsOf q)
-  pub within : Every (λ s. s .slot < slotCount) (stepsOf q)
-  -- the records are there for exactly the slots of which there is a step
-  pub slots : length (q .records) ≡ slotCount
-  pub recorded : (slot : ℕ) → slot < slotCount → isUsed (getD (q .records) slot blankRecord) ≡ some (isOf slot) (stepsOf q)
-  pub unrecorded : (slot : ℕ) → slot < slotCount → some (isOf slot) (stepsOf q) ≡ false → getD (q .records) slot blankRecord ≡ blankRecord
-
 pub record Always : Type 0 where
   pub blank : Sound blankRecording
   pub none : SoundSequence blankSequence
@@ -71,6 +62,8 @@ pub record Always : Type 0 where
       (r : Recording) (slot : ℕ) (client : Client) (complete : Bool) (e : Execution) → Sound r → slot < slotCount
       → Sound (heardOf r slot client complete e .recording)
   pub kept : (r : Recording) (old : Sequence) → Sound r → SoundSequence old → SoundSequence (keptSequence r old)
+  -- the steps that a recording keeps are in order of start
+  pub kept-ordered : (r : Recording) (old : Sequence) → Sound r → some stays (heldOf r) ≡ true → EveryTwo InOrder (stepsOf (keptSequence r old))
   -- the bound that a step's slot is held against, which 01 does not have, never decides
   pub bound :
       (records : List ClientRecord) (slot : ℕ) (client : Client) → slot < slotCount
