@@ -5,7 +5,7 @@ use crate::master::{given, library_event};
 use crate::messages::Status;
 use crate::pool::library_check;
 use crate::pools::shaped;
-use crate::states::{answer, indication, playing, record, recorded, tick, Pair};
+use crate::states::{answer, blocks, indication, load, playing, record, recorded, store, tick, Pair};
 use crate::times::{hide, least, Call};
 use std::rc::Rc;
 
@@ -28,7 +28,7 @@ const TRIES: usize = 3;
 
 /// Prints a table for each; gives the titles of those that are plainly quadratic.
 pub fn report() -> Vec<&'static str> {
-    let growths = on_pools().into_iter().chain(in_record()).chain(in_playback());
+    let growths = on_pools().into_iter().chain(in_record()).chain(in_playback()).chain(in_ready());
     growths.filter_map(|mut growth| if holds(&mut growth) { None } else { Some(growth.title) }).collect()
 }
 
@@ -124,4 +124,20 @@ fn in_playback() -> Vec<Growth> {
         growth("tick in playback, the last of 64 steps leaves", "frames", ticks.into(), library_event),
         growth("answer, to the last of so many steps that have left", "steps", answers.into(), library_event),
     ]
+}
+
+/// All steps are of one client.
+fn in_ready() -> Vec<Growth> {
+    let steps = [1, 2, 4, 8, 16, 32, 64];
+    let stores = steps.map(|count| {
+        let pair = recorded(1, count);
+        let event = store(&pair);
+        (count, given(pair, event))
+    });
+    let loads = steps.map(|count| {
+        let pair = recorded(1, count);
+        let event = load(blocks(&pair));
+        (count, given(pair, event))
+    });
+    vec![growth("store", "steps", stores.into(), library_event), growth("load", "steps", loads.into(), library_event)]
 }

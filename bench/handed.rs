@@ -27,6 +27,8 @@ extern "C" {
     fn scm_master_abort(m: Master) -> Outcome;
     fn scm_master_tick(m: Master, mm: u32, frames: *mut u8, frames_len: usize) -> Outcome;
     fn scm_master_answer(m: Master, slot: usize, msg: *const u8, msg_len: usize, out: *mut u8, out_len: usize) -> Outcome;
+    fn scm_master_store(m: Master, blocks: *mut u8, blocks_len: usize) -> Outcome;
+    fn scm_master_load(m: Master, blocks: *const u8, blocks_len: usize) -> Outcome;
     fn scm_master_state(state: u8) -> u8;
     fn scm_master_slot(m: Master, slot: usize) -> SlotResult;
     fn scm_master_step_count(sequence: Sequence) -> usize;
@@ -158,6 +160,8 @@ pub fn event(event: &Event, m: &Master, out: &mut [u8], outcome: &mut Outcome) {
         Event::Abort => (scm_master_abort as _, [0; 5]),
         Event::Tick { millimetres, .. } => (scm_master_tick as _, [millimetres as usize, o, room, 0, 0]),
         Event::Answer { slot, .. } => (scm_master_answer as _, [slot, i, length, o, room]),
+        Event::Store { .. } => (scm_master_store as _, [o, room, 0, 0, 0]),
+        Event::Load { .. } => (scm_master_load as _, [i, length, 0, 0, 0]),
     };
     let [a, b, c, d, e] = others;
     unsafe { hand_over(call, m, [outcome as *mut Outcome as usize, a, b, c, d, e]) };

@@ -52,6 +52,9 @@ mod playback;
 #[path = "../tests/master/recording.rs"]
 mod recording;
 #[allow(dead_code)]
+#[path = "../tests/master/stored.rs"]
+mod stored;
+#[allow(dead_code)]
 #[path = "../tests/master/verification.rs"]
 mod verification;
 
@@ -116,10 +119,18 @@ fn slow_checks(rows: &[Row], times: &[Times]) -> Option<String> {
     (worst > CHECK).then(|| format!("scm_pool_check of a full pool: {worst:.2} times the model's time, limit {CHECK:.2}"))
 }
 
+/// Of the slowest call, and of a store and a load of the largest sequence, each in one case that is accepted.
 fn share_of_tick(rows: &[Row], times: &[Times]) {
+    let of = |row: &Row, library: f64| {
+        println!("{}: {:.3} µs, {:.3} % of a tick of 100 ms", row.name(), library / 1_000.0, 100.0 * library / TICK);
+    };
+    for (row, times) in rows.iter().zip(times).filter(|(row, _)| row.case == master::LARGEST) {
+        of(row, times.library);
+    }
     let slowest = rows.iter().zip(times).max_by(|(_, one), (_, other)| one.library.total_cmp(&other.library));
     if let Some((row, Times { library, .. })) = slowest {
-        println!("slowest: {}: {:.3} µs, {:.3} % of a tick of 100 ms", row.name(), library / 1_000.0, 100.0 * library / TICK);
+        print!("slowest: ");
+        of(row, *library);
     }
 }
 

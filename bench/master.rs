@@ -7,11 +7,15 @@ use crate::messages::Status;
 use crate::model::{self, State};
 use crate::pools;
 use crate::rows::{row, Row};
-use crate::states::{answer, indication, playing, ready, record, record_complete, recorded, tick, Pair};
+use crate::states::{answer, blocks, indication, load, playing, ready, record, record_complete, recorded, store, tick, Pair};
+use crate::stored;
 use crate::times::hide;
 use std::cell::RefCell;
 use std::mem::size_of;
 use std::rc::Rc;
+
+/// Of a store and a load: seven blocks.
+pub const LARGEST: &str = "8 clients, 64 steps: 7 blocks";
 
 /// An event, the state it comes in, lent output, and where the library's outcome goes.
 pub struct Given {
@@ -41,7 +45,7 @@ fn model_event(it: &Given) -> u64 {
 
 pub fn rows() -> Vec<Row> {
     let both = size_of::<Master>() + size_of::<Outcome>();
-    let events = playback_events().into_iter().chain(record_events()).chain(other_events());
+    let events = playback_events().into_iter().chain(record_events()).chain(other_events()).chain(storing_events());
     let rows = events.map(|(call, case, pair, event)| row((call, case), both, given(pair, event), library_event, model_event));
     rows.chain(readers()).collect()
 }
@@ -101,6 +105,28 @@ fn other_events() -> Vec<Named> {
         ("scm_report", "disabled, the slot empties", ready(), Event::Report { slot: 7, report: 0 }),
         ("scm_on", "", Pair::new(), Event::On),
         ("scm_off", "", on, Event::Off),
+    ]
+}
+
+/// The largest sequence and the least, accepted; and what is refused at the end of the largest: by the last check, and by its last steps.
+fn storing_events() -> Vec<Named> {
+    let (largest, least) = (recorded(8, 64), recorded(1, 1));
+    let (blocks, few) = (blocks(&largest), blocks(&least));
+    let (mut wrong, mut filled) = (blocks.clone(), blocks.clone());
+    *wrong.last_mut().unwrap() ^= 1;
+    let last = filled.len() - stored::BLOCK;
+    filled[last + stored::WORDS - 1] = 1;
+    let check = stored::sum(&filled[last..], 7).to_le_bytes();
+    filled[last + stored::WORDS..].copy_from_slice(&check);
+    vec![
+        ("scm_store", LARGEST, largest.clone(), store(&largest)),
+        ("scm_store", "1 client, 1 step: 3 blocks", least.clone(), store(&least)),
+        ("scm_store", "no sequence", ready(), Event::Store { room: 3_584 }),
+        ("scm_load", LARGEST, largest.clone(), load(blocks.clone())),
+        ("scm_load", "the same into a master without one", ready(), load(blocks)),
+        ("scm_load", "1 client, 1 step: 3 blocks", least, load(few)),
+        ("scm_load", "the last of 7 checks is wrong", largest.clone(), load(wrong)),
+        ("scm_load", "the last fill of 7 blocks is not zero", largest, load(filled)),
     ]
 }
 

@@ -7,6 +7,7 @@ use crate::library;
 use crate::messages::{self, Answer, Indication, Status};
 use crate::model::{self, State};
 use crate::pools;
+use crate::stored;
 use std::rc::Rc;
 
 #[derive(Clone)]
@@ -78,6 +79,20 @@ pub fn record_complete() -> Pair {
 /// Ready, with a sequence of so many steps that are all due at once.
 pub fn recorded(clients: usize, steps: usize) -> Pair {
     all_report(record(clients, steps).after(Event::Stop), 1)
+}
+
+/// A store of its sequence, with as much room as it needs.
+pub fn store(pair: &Pair) -> Event {
+    Event::Store { room: pair.model.stored_bytes() }
+}
+
+/// The blocks of its sequence.
+pub fn blocks(pair: &Pair) -> Vec<u8> {
+    stored::of(&pair.model.sequence)
+}
+
+pub fn load(blocks: Vec<u8>) -> Event {
+    Event::Load { blocks: Rc::new(blocks) }
 }
 
 /// In playback of 64 steps: so many have left, one a tick, and of these so many are unanswered, the others started. At most

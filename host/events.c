@@ -10,7 +10,10 @@ const struct event_form event_forms[EVENT_KINDS] = {
     [EVENT_RECORD] = {"record", "", NULL}, [EVENT_STOP] = {"stop", "", NULL}, [EVENT_CANCEL] = {"cancel", "", NULL},
     [EVENT_INDICATION] = {"indication", "sb", "E.5"}, [EVENT_CLIENT_ABORT] = {"client_abort", "sb", NULL}, [EVENT_START] = {"start", "", NULL},
     [EVENT_ABORT] = {"abort", "", NULL}, [EVENT_TICK] = {"tick", "m", NULL}, [EVENT_ANSWER] = {"answer", "sb", "E.8"},
+    [EVENT_STORE] = {"store", "l", NULL}, [EVENT_LOAD] = {"load", "k", NULL},
 };
+
+#define ALIKE 8u                    /* of blocks, which are mostly 0, so many bytes alike in a row are written as one, with their number */
 
 /* A client's pool has come. It is answered by D.9: where the pool is refused with the code and the object that the master gives, else with 00 and FFFF. */
 static uint8_t event_attach(scm_master *m, const struct event *e, struct event_outcome *o)
@@ -38,6 +41,15 @@ static uint8_t event_start(scm_master *m, struct event_outcome *o)
     return number;
 }
 
+/* The sequence is the one of the blocks. How many steps it has is read where it was taken up. */
+static uint8_t event_load(scm_master *m, const struct event *e, struct event_outcome *o)
+{
+    uint8_t number = scm_load(m, e->bytes, e->length);
+
+    o->steps = number == SCM_OK ? scm_step_count(m) : 0;
+    return number;
+}
+
 /* The library leaves the new state in the master; with any number but 0 the old one stays. */
 static uint8_t event_call(scm_master *m, const struct event *e, struct event_outcome *o)
 {
@@ -58,6 +70,8 @@ static uint8_t event_call(scm_master *m, const struct event *e, struct event_out
     case EVENT_ABORT: return scm_abort(m);
     case EVENT_TICK: return scm_tick(m, e->mm, o->frames, sizeof o->frames, &o->count);
     case EVENT_ANSWER: return scm_answer(m, e->slot, e->bytes, e->length, o->out, sizeof o->out);
+    case EVENT_STORE: return scm_store(m, o->blocks, e->lent, &o->written);
+    case EVENT_LOAD: return event_load(m, e, o);
     default: return SCM_WRONG_VALUE;
     }
 }
@@ -77,8 +91,27 @@ void event_run(scm_master *master, const struct event *e, struct event_outcome *
     }
 }
 
+/* The byte at the front as it is written, and how many it stands for: of as many alike as are wanted in a row for that, XX*N stands for all. */
+static size_t event_byte(const uint8_t *bytes, size_t length, size_t wanted, char text[32])
+{
+    size_t alike = 1;
+
+    while (alike < length && bytes[alike] == bytes[0]) {
+        alike++;
+    }
+    if (alike < wanted) {
+        snprintf(text, 32, " %02X", bytes[0]);
+        return 1;
+    }
+    snprintf(text, 32, " %02X*%zu", bytes[0], alike);
+    return alike;
+}
+
 void event_write(FILE *log, const struct event *e)
 {
+    char byte[32];
+
+
     fprintf(log, "%s", event_forms[e->kind].word);
     for (const char *field = event_forms[e->kind].fields; *field != '\0'; field++) {
         switch (*field) {
@@ -86,11 +119,13 @@ void event_write(FILE *log, const struct event *e)
         case 'n': fprintf(log, " %016" PRIX64, e->name); break;
         case 'r': fprintf(log, " %s", scm_report_text(e->report)); break;
         case 'm': fprintf(log, " %" PRIu32, e->mm); break;
+        case 'l': fprintf(log, e->lent < SCM_STORE_BYTES ? " %" PRIu32 : "", e->lent); break;
         default: break;                                     /* bytes come last */
         }
     }
-    for (size_t i = 0; i < e->length; i++) {
-        fprintf(log, " %02X", e->bytes[i]);
+    for (size_t i = 0; i < e->length;) {
+        i += event_byte(e->bytes + i, e->length - i, e->kind == EVENT_LOAD ? ALIKE : SIZE_MAX, byte);
+        fprintf(log, "%s", byte);
     }
     fprintf(log, "\n");
 }
@@ -117,7 +152,23 @@ static void event_add_message(struct event_text *text, const char *message, uint
     event_add(text, "\n");
 }
 
-/* The number in words, and what belongs to it: code and object of a refused pool, slot and step at which a start was refused. */
+/* A stored sequence, a line for each block. */
+static void event_add_blocks(struct event_text *text, const struct event_outcome *o)
+{
+    char byte[32];
+
+    for (size_t block = 0; block < o->written; block += SCM_BLOCK_BYTES) {
+        event_add(text, "#=   block %zu:", block / SCM_BLOCK_BYTES + 1);
+        for (size_t i = 0; i < SCM_BLOCK_BYTES;) {
+            i += event_byte(o->blocks + block + i, SCM_BLOCK_BYTES - i, ALIKE, byte);
+            event_add(text, "%s", byte);
+        }
+        event_add(text, "\n");
+    }
+}
+
+/* The number in words, and what belongs to it: code and object of a refused pool, slot and step at which a start was refused, the bytes stored, the
+   steps loaded. */
 static void event_add_number(struct event_text *text, const struct event_outcome *o)
 {
     event_add(text, "#= %u %s", (unsigned)o->number, scm_number_text(o->number));
@@ -133,6 +184,12 @@ static void event_add_number(struct event_text *text, const struct event_outcome
     if (o->tick > 0) {
         event_add(text, ", tick %" PRIu32, o->tick);
     }
+    if (o->written > 0) {
+        event_add(text, ", %zu bytes", o->written);
+    }
+    if (o->steps > 0) {
+        event_add(text, ", %zu step%s", o->steps, o->steps == 1 ? "" : "s");
+    }
     event_add(text, o->number == SCM_NOT_EXPECTED ? ": send a NACK\n" : "\n");
 }
 
@@ -147,6 +204,7 @@ void event_outcome_text(const struct event *e, const struct event_outcome *o, st
     if (o->sends) {
         event_add_message(text, event_forms[e->kind].message, e->slot, o->out);
     }
+    event_add_blocks(text, o);
     if (o->before != o->after) {
         event_add(text, "#=   the master goes from %s to %s\n", scm_state_text(o->before), scm_state_text(o->after));
     }

@@ -55,7 +55,7 @@ void pool_shown_text(const struct pool *pool, uint8_t function, uint32_t value, 
 
 enum event_kind {
     EVENT_ON, EVENT_OFF, EVENT_ATTACH, EVENT_ENABLE, EVENT_DISABLE, EVENT_REPORT, EVENT_LOST, EVENT_RECORD, EVENT_STOP, EVENT_CANCEL, EVENT_INDICATION,
-    EVENT_CLIENT_ABORT, EVENT_START, EVENT_ABORT, EVENT_TICK, EVENT_ANSWER, EVENT_KINDS
+    EVENT_CLIENT_ABORT, EVENT_START, EVENT_ABORT, EVENT_TICK, EVENT_ANSWER, EVENT_STORE, EVENT_LOAD, EVENT_KINDS
 };
 
 struct event {                      /* fields that its kind does not have are not looked at */
@@ -64,7 +64,8 @@ struct event {                      /* fields that its kind does not have are no
     uint64_t name;                  /* attach */
     uint8_t report;                 /* report: SCM_REPORT_... */
     uint32_t mm;                    /* tick: driven since the last one */
-    const uint8_t *bytes;           /* attach: the pool; indication, client_abort and answer: the message */
+    uint32_t lent;                  /* store: the bytes that are lent, at most SCM_STORE_BYTES */
+    const uint8_t *bytes;           /* attach: the pool; indication, client_abort and answer: the message; load: the blocks */
     size_t length;
 };
 
@@ -80,17 +81,20 @@ struct event_outcome {              /* what came of an event; what it does not h
     uint8_t out[SCM_ANSWER_BYTES];
     uint8_t before, after;          /* the master's states */
     uint32_t tick;                  /* tick: its number since the recording or the playback began; 0 in other states */
+    size_t written;                 /* store: the bytes of the blocks */
+    uint8_t blocks[SCM_STORE_BYTES];
+    size_t steps;                   /* load: the steps of the sequence that was taken up */
 };
 
 struct event_form {                 /* how an event stands in a file of events */
     const char *word;
-    const char *fields;             /* s slot, n NAME, r report, m millimetres, b bytes */
+    const char *fields;             /* s slot, n NAME, r report, m millimetres, b bytes, k blocks or none, l bytes lent, all where none are named */
     const char *message;            /* the one that its outcome sends, or NULL */
 };
 
 struct event_text {                 /* lines that begin with #= */
     size_t length;
-    char bytes[4096];               /* enough for an outcome with 64 frames */
+    char bytes[12288];              /* enough for an outcome with 64 frames, and for the blocks of the longest sequence */
 };
 
 extern const struct event_form event_forms[EVENT_KINDS];
@@ -142,6 +146,17 @@ bool drill_indicates(struct drill *drill, uint32_t tick, uint32_t depth, struct 
 bool drill_answers(struct drill *drill, uint32_t tick, struct event *event);
 /* A client takes an E.6; one that it has taken before changes nothing. */
 bool drill_takes(struct drill *drill, uint32_t tick, const uint8_t frame[SCM_FRAME_BYTES], struct fault *fault);
+
+/* ---- keep.c: a sequence in a file */
+
+#define KEEP_BYTES (SCM_STORE_BYTES + 1u)                   /* a file of so many bytes is longer than that of any sequence */
+
+/* Replaces the file, or makes it. It is the old one until it is the new one, and after true it is that whatever happens. */
+bool keep_write(const char *path, const uint8_t *bytes, size_t length, struct fault *fault);
+/* The bytes of a file, to be judged by the library: none, or those of a whole file of up to SCM_STORE_BYTES. */
+bool keep_read(const char *path, uint8_t bytes[KEEP_BYTES], size_t *length, struct fault *fault);
+/* Always gives false: a file of this length was refused with this number, in words for the screen. */
+bool keep_refused(const char *path, size_t length, uint8_t number, struct fault *fault);
 
 /* ---- sheet.c: the plot sheet, the inspector's answers and the test bench's */
 
@@ -212,8 +227,14 @@ struct terminal {
 
 /* Everything as it is before the master is switched on, with a simulated clock. */
 bool terminal_make(struct terminal *terminal, FILE *log, struct fault *fault);
-/* The whole story: one plot end recorded, and replayed at twenty. */
-bool terminal_play(struct terminal *terminal, uint32_t depth, struct sheet *sheet, struct fault *fault);
+/* The drill is attached, and one plot end is recorded. */
+bool terminal_september(struct terminal *terminal, uint32_t depth, struct fault *fault);
+/* Keeps the sequence in a file. */
+bool terminal_save(struct terminal *terminal, const char *path, struct fault *fault);
+/* The drill is attached again, and the sequence is taken up from a file and verified: a start would be taken. */
+bool terminal_march(struct terminal *terminal, const char *path, struct fault *fault);
+/* The sequence is replayed at twenty plot ends. */
+bool terminal_play(struct terminal *terminal, struct sheet *sheet, struct fault *fault);
 /* Replays by the clock for so many seconds; then the operator stops. */
 bool terminal_live(struct terminal *terminal, uint32_t seconds, struct fault *fault);
 /* What goes wrong on a field, and how the terminal goes on. */
@@ -222,6 +243,7 @@ bool terminal_mishaps(struct terminal *terminal, struct fault *fault);
 /* ---- script.c: a file of events */
 
 #define SCRIPT_LINE_BYTES 65535u    /* a full pool in hex fits, with blanks */
+#define SCRIPT_BYTES 32767u         /* so many bytes that an event hands over, two digits each, fill a line; with XX*N it may not have more either */
 
 struct script {
     scm_master master;
@@ -229,7 +251,7 @@ struct script {
     unsigned long number, events;   /* of the line, and how many events were run */
     size_t length;                  /* of the line, without its end */
     char line[SCRIPT_LINE_BYTES + 1];
-    uint8_t bytes[SCRIPT_LINE_BYTES / 2];
+    uint8_t bytes[SCRIPT_BYTES];
     struct event_text given;        /* by the last event, one line after the other */
     size_t met;                     /* how much of it has stood in the file */
 };

@@ -5,10 +5,14 @@
 #include "host.h"
 
 static const char usage[] =
-    "usage: terminal [--sheets] [DEPTH [LATEST.svg [SLOWEST.svg]]]\n"
+    "usage: terminal [--sheets] [--save FILE] [DEPTH [LATEST.svg [SLOWEST.svg]]]\n"
     "                                play the drill: the inspector's answers and a line for each plot, with --sheets every step of every plot, and\n"
-    "                                pictures of two plots; the depth is 0 to 1000 tenths of a millimetre, or else 240\n"
-    "       terminal --log DEPTH     the same, but print its events\n"
+    "                                pictures of two plots; the depth is 0 to 1000 tenths of a millimetre, or else 240; with --save the recorded\n"
+    "                                sequence is kept in a file\n"
+    "       terminal [--sheets] --load FILE [LATEST.svg [SLOWEST.svg]]\n"
+    "                                the same with a sequence that was kept, and none recorded\n"
+    "       terminal --log [--save FILE] DEPTH, terminal --log --load FILE\n"
+    "                                the same, but print the events\n"
     "       terminal --mishaps       what goes wrong on a field, and how the terminal goes on, as events\n"
     "       terminal --live SECONDS  replay by the clock, for 1 to 3600 seconds\n"
     "       terminal --events FILE   run a file of events and print what each line gives\n"
@@ -48,26 +52,80 @@ static bool main_picture(const char *path, const struct sheet *sheet, enum pictu
     return main_end(file, path, fault);
 }
 
-/* The words are a depth and the paths of pictures, as many as are given. */
-static bool main_play(struct terminal *terminal, int count, char **words, FILE *log, bool full, struct fault *fault)
+/* How the drill is played: what stands before the depth and the pictures. */
+struct options {
+    bool sheets, log;
+    const char *save, *load;        /* the file to keep the sequence in, or to take it up from; or NULL */
+};
+
+/* Takes the options off the front of the words. Which of them go together is looked at here as well. */
+static bool main_options(int *count, char ***words, struct options *options, struct fault *fault)
 {
+    for (; *count > 0; --*count, ++*words) {
+        const char *word = **words;
+        const char **file = strcmp(word, "--save") == 0 ? &options->save : strcmp(word, "--load") == 0 ? &options->load : NULL;
+
+        if (file != NULL && *count > 1) {
+            --*count;
+            *file = *++*words;
+        } else if (strcmp(word, "--sheets") == 0) {
+            options->sheets = true;
+        } else if (strcmp(word, "--log") == 0) {
+            options->log = true;
+        } else {
+            break;
+        }
+    }
+    return !((options->save != NULL && options->load != NULL) || (options->log && (options->sheets || *count != (options->load == NULL))))
+        || fault_say(fault, FAULT_USAGE, "options that do not go together, or words that they lack");
+}
+
+/* The sequence, from a recording or from a file. What is said of the file goes to standard error: what is printed is the sheet alone. */
+static bool main_sequence(struct terminal *terminal, const struct options *options, uint32_t depth, struct fault *fault)
+{
+    const char *path = options->load != NULL ? options->load : options->save;
+    scm_client_view client;
+    unsigned clients = 0;
+
+    if (options->load != NULL ? !terminal_march(terminal, path, fault)
+                              : !terminal_september(terminal, depth, fault) || (path != NULL && !terminal_save(terminal, path, fault))) {
+        return false;
+    }
+    for (size_t slot = 0; slot < SCM_SLOTS; slot++) {
+        clients += scm_client(&terminal->master, slot, &client) == SCM_OK && client.used == 1;
+    }
+    if (path != NULL) {
+        fprintf(stderr, "terminal: %s: %zu steps of %u clients, %s\n", path, scm_step_count(&terminal->master), clients,
+                options->load != NULL ? "verified: a start would be taken" : "kept");
+    }
+    return true;
+}
+
+/* The words are a depth, but for a sequence from a file, and the paths of pictures, as many as are given. */
+static bool main_play(struct terminal *terminal, int count, char **words, struct fault *fault)
+{
+    struct options options = {.save = NULL, .load = NULL};
     struct sheet sheet;
     struct fault inner;
     uint32_t depth = 240;
+    int pictures;
 
-    if (!terminal_make(terminal, log, fault)) {
+    if (!main_options(&count, &words, &options, fault) || !terminal_make(terminal, options.log ? stdout : NULL, fault)) {
         return false;
     }
-    if (count > 3 || (count > 0 && !script_number(words[0], &depth, &inner)) || depth > pool_function(&terminal->clients[POOL_DRILL], POOL_COULTERS).maximum) {
+    pictures = options.load == NULL && count > 0 ? 1 : 0;   /* where their paths begin */
+    if (count > pictures + 2 || (pictures == 1 && !script_number(words[0], &depth, &inner))
+        || depth > pool_function(&terminal->clients[POOL_DRILL], POOL_COULTERS).maximum) {
         return fault_say(fault, FAULT_USAGE, "no depth, or too many words");
     }
-    if (!terminal_play(terminal, depth, &sheet, fault)) {
+    if (!main_sequence(terminal, &options, depth, fault) || !terminal_play(terminal, &sheet, fault)) {
         return false;
     }
-    if (log == NULL) {
-        sheet_print(stdout, &sheet, full);
+    if (!options.log) {
+        sheet_print(stdout, &sheet, options.sheets);
     }
-    return (count < 2 || main_picture(words[1], &sheet, PICTURE_LATEST, fault)) && (count < 3 || main_picture(words[2], &sheet, PICTURE_SLOWEST, fault));
+    return (count < pictures + 1 || main_picture(words[pictures], &sheet, PICTURE_LATEST, fault))
+        && (count < pictures + 2 || main_picture(words[pictures + 1], &sheet, PICTURE_SLOWEST, fault));
 }
 
 static bool main_live(struct terminal *terminal, const char *word, struct fault *fault)
@@ -104,18 +162,14 @@ static bool main_run(int count, char **words, struct fault *fault)
     const char *first = count > 0 ? words[0] : "";
     struct terminal terminal;
 
-    if (count == 2 && strcmp(first, "--log") == 0) {
-        return main_play(&terminal, 1, words + 1, stdout, false, fault);
-    } else if (count == 1 && strcmp(first, "--mishaps") == 0) {
+    if (count == 1 && strcmp(first, "--mishaps") == 0) {
         return terminal_make(&terminal, stdout, fault) && terminal_mishaps(&terminal, fault);
     } else if (count == 2 && strcmp(first, "--live") == 0) {
         return main_live(&terminal, words[1], fault);
     } else if (count == 2 && (strcmp(first, "--events") == 0 || strcmp(first, "--check") == 0)) {
         return main_script(words[1], strcmp(first, "--check") == 0, fault);
-    } else if (strcmp(first, "--sheets") == 0) {
-        return main_play(&terminal, count - 1, words + 1, NULL, true, fault);
     }
-    return main_play(&terminal, count, words, NULL, false, fault);
+    return main_play(&terminal, count, words, fault);
 }
 
 int main(int argc, char **argv)

@@ -37,20 +37,51 @@ static bool script_report(const char *text, uint8_t *report, struct fault *fault
     return fault_say(fault, FAULT_INPUT, "a report is disabled, ready, record, playback or abort");
 }
 
-/* Two hex digits for each byte, with or without blanks between them. A line is too short for more bytes than there is room for. */
+/* How often a byte stands: once, or as often as the number after a star says, which a blank or the end follows. */
+static bool script_times(const char **text, size_t *times, struct fault *fault)
+{
+    *times = 1;
+    if (**text != '*') {
+        return true;
+    }
+    *times = 0;
+    for (++*text; **text != '\0' && strchr(DIGITS, **text) != NULL; ++*text) {
+        *times = *times > SCRIPT_BYTES ? *times : 10 * *times + (size_t)(**text - '0');     /* more than there is room for is enough */
+    }
+    return (*times > 0 && strcspn(*text, BLANKS) == 0) || fault_say(fault, FAULT_INPUT, "after a star stands how often, 1 or more, and a blank");
+}
+
+/* Two hex digits for each byte, with or without blanks between them; XX*N and a blank stand for N of them. */
 static bool script_bytes(const char *text, uint8_t *bytes, size_t *length, struct fault *fault)
 {
     static const char digits[] = DIGITS "ABCDEF" DIGITS "abcdef";
 
-    for (text += strspn(text, BLANKS); *text != '\0'; text += 2 + strspn(text + 2, BLANKS)) {
+    for (text += strspn(text, BLANKS); *text != '\0'; text += strspn(text, BLANKS)) {
         const char *high = strchr(digits, text[0]);
         const char *low = text[1] == '\0' ? NULL : strchr(digits, text[1]);
+        size_t times;
         if (high == NULL || low == NULL) {
             return fault_say(fault, FAULT_INPUT, "a byte is two hex digits");
         }
-        bytes[(*length)++] = (uint8_t)((high - digits) % 16 * 16 + (low - digits) % 16);
+        text += 2;
+        if (!script_times(&text, &times, fault)) {
+            return false;
+        }
+        if (times > SCRIPT_BYTES - *length) {
+            return fault_say(fault, FAULT_INPUT, "more than %u bytes", SCRIPT_BYTES);
+        }
+        memset(bytes + *length, (int)((high - digits) % 16 * 16 + (low - digits) % 16), times);
+        *length += times;
     }
-    return *length > 0 || fault_say(fault, FAULT_INPUT, "bytes are missing");
+    return true;
+}
+
+/* How many bytes are lent to a store: all that there is room for, unless a number stands there. */
+static bool script_lent(const char *word, uint32_t *lent, struct fault *fault)
+{
+    *lent = SCM_STORE_BYTES;
+    return word == NULL
+        || (script_number(word, lent, fault) && (*lent <= SCM_STORE_BYTES || fault_say(fault, FAULT_INPUT, "more than %u bytes lent", SCM_STORE_BYTES)));
 }
 
 /* Cuts the next word off the rest of the line, which ends where one of these bytes stands; NULL where there is none. */
@@ -66,12 +97,12 @@ static char *script_word(char **rest, const char *ends)
     return length > 0 ? word : NULL;
 }
 
-/* A word for each field; bytes take all that is left. */
+/* A word for each field, which two may do without; bytes take all that is left. */
 static bool script_field(struct script *script, char field, char **rest, struct event *event, struct fault *fault)
 {
-    char *word = script_word(rest, field == 'b' ? "" : BLANKS);
+    char *word = script_word(rest, field == 'b' || field == 'k' ? "" : BLANKS);
 
-    if (word == NULL) {
+    if (word == NULL && field != 'k' && field != 'l') {
         return fault_say(fault, FAULT_INPUT, "a word is missing");
     }
     switch (field) {
@@ -79,7 +110,10 @@ static bool script_field(struct script *script, char field, char **rest, struct 
     case 'n': return script_name(word, &event->name, fault);
     case 'r': return script_report(word, &event->report, fault);
     case 'm': return script_number(word, &event->mm, fault);
-    default: return script_bytes(word, script->bytes, &event->length, fault);
+    case 'l': return script_lent(word, &event->lent, fault);
+    case 'k': return word == NULL || script_bytes(word, script->bytes, &event->length, fault);
+    default:
+        return script_bytes(word, script->bytes, &event->length, fault) && (event->length > 0 || fault_say(fault, FAULT_INPUT, "bytes are missing"));
     }
 }
 

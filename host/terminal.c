@@ -1,4 +1,5 @@
-/* A terminal over include/scm.h, to try and to copy. It plays a drill of two clients: records one plot end, and replays it at twenty. */
+/* A terminal over include/scm.h, to try and to copy. It plays a drill of two clients: records one plot end, or takes it up from a file, and replays it
+   at twenty. */
 #include <stdarg.h>
 #include <string.h>
 
@@ -256,9 +257,49 @@ static bool terminal_back_to_ready(struct terminal *t, struct fault *fault)
         && terminal_all_report(t, SCM_REPORT_READY, fault);
 }
 
-bool terminal_play(struct terminal *t, uint32_t depth, struct sheet *sheet, struct fault *fault)
+bool terminal_september(struct terminal *t, uint32_t depth, struct fault *fault)
 {
-    bool ok = terminal_set_up(t, fault) && terminal_record(t, depth, fault) && sheet_recorded(sheet, t->clients, &t->master, fault);
+    return terminal_set_up(t, fault) && terminal_record(t, depth, fault);
+}
+
+bool terminal_save(struct terminal *t, const char *path, struct fault *fault)
+{
+    return terminal_do(t, (struct event){.kind = EVENT_STORE, .lent = SCM_STORE_BYTES}, fault)
+        && keep_write(path, t->outcome.blocks, t->outcome.written, fault);
+}
+
+/* For the screen, before the driver starts: whether a start would be taken, and if not, which client or step stands against it. */
+static bool terminal_verified(struct terminal *t, const char *path, struct fault *fault)
+{
+    scm_check_view where;
+    uint8_t number = scm_verify(&t->master, &where);
+    char step[32] = "";
+
+    if (number == SCM_NOT_IN_POOL) {
+        snprintf(step, sizeof step, ", step %zu", where.step + 1);
+    }
+    return number == SCM_OK || fault_say(fault, FAULT_RUN, "%s: a start would be refused: %u %s: slot %zu%s", path, (unsigned)number,
+                                         scm_number_text(number), where.slot, step);
+}
+
+bool terminal_march(struct terminal *t, const char *path, struct fault *fault)
+{
+    uint8_t blocks[KEEP_BYTES];
+    struct event load = {.kind = EVENT_LOAD, .bytes = blocks};
+    struct fault inner;
+
+    if (!keep_read(path, blocks, &load.length, fault) || !terminal_set_up(t, fault)) {
+        return false;
+    }
+    if (!terminal_do(t, load, &inner)) {
+        return keep_refused(path, load.length, t->outcome.number, fault);
+    }
+    return terminal_verified(t, path, fault);
+}
+
+bool terminal_play(struct terminal *t, struct sheet *sheet, struct fault *fault)
+{
+    bool ok = sheet_recorded(sheet, t->clients, &t->master, fault);
 
     t->sheet = sheet;
     for (unsigned plot = 0; ok && plot < SHEET_PLOTS; plot++) {
@@ -271,7 +312,7 @@ bool terminal_play(struct terminal *t, uint32_t depth, struct sheet *sheet, stru
 
 bool terminal_live(struct terminal *t, uint32_t seconds, struct fault *fault)
 {
-    bool ok = terminal_set_up(t, fault) && terminal_record(t, 240, fault) && ticker_real(&t->ticker, fault);
+    bool ok = terminal_september(t, 240, fault) && ticker_real(&t->ticker, fault);
     uint32_t last = 10 * seconds;
 
     for (unsigned plot = 0; ok && t->ticker.called < last; plot++) {

@@ -4,11 +4,11 @@
    enum scm_number (scm_pool_check by a code of D.9; scm_object_at and scm_profile_of, which take any bytes, give nothing of what they cannot read);
    then the master and every lent byte are as they were. There is no start-up call, no global, no heap and no thread here.
 
-   Pointers. A pointer that comes with a length (pool, msg, bytes, out, frames) is lent memory: it points to that many bytes, and is not NULL, even
-   where the length is 0. A master, and an object or a message that is to be written, is not NULL. What a call reads and what it writes do not
-   overlap.
+   Pointers. A pointer that comes with a length (pool, msg, bytes, out, frames, blocks) is lent memory: it points to that many bytes, and is not
+   NULL, even where the length is 0. A master, and an object or a message that is to be written, is not NULL. What a call reads and what it writes do
+   not overlap.
 
-   Out-parameters. One that is no lent memory (code, object, count, length, next, message, shown, view) may be NULL, and is not written then.
+   Out-parameters. One that is no lent memory (code, object, count, written, length, next, message, shown, view) may be NULL, and is not written then.
    Otherwise it is always written, also where the call is refused: with 0 in it where there is nothing to say (next: the place that was passed). Lent
    output is written with number 0 alone, and only where the call says; its other bytes stay.
 
@@ -48,7 +48,7 @@ extern "C" {
 /* ---- Version */
 
 /* The version of this header: major * 1,000,000 + minor * 1,000 + patch. */
-#define SCM_VERSION 1000000u
+#define SCM_VERSION 1001000u
 
 /* The version of the archive, counted likewise. A host compiled with this header wants SCM_VERSION: compare once, at its start. */
 SCM_MUST_USE uint32_t scm_version(void);
@@ -65,11 +65,13 @@ SCM_MUST_USE uint32_t scm_version(void);
 #define SCM_FRAMES_BYTES   576u     /* what a tick fills: room for 64 frames */
 #define SCM_ANSWER_TICKS   15u      /* so many ticks after a command left, its first answer is still in time; the next tick aborts the playback */
 #define SCM_LAST_TICK      36000u   /* the tick, an hour, at which a recording is thrown away and a playback is aborted */
+#define SCM_BLOCK_BYTES    512u     /* a block of a stored sequence */
+#define SCM_STORE_BYTES    3584u    /* enough for every sequence: seven blocks */
 
 /* ---- The numbers that calls give back
 
    Where several apply: 1, 4, 3, 2, then the rest in the order that the call names them. Every number but SCM_OK leaves the master and all lent memory
-   as they were. While the master is inactive, every call that changes it but scm_on gives 2, unless 1, 4 or 3 comes first. */
+   as they were. While the master is inactive, every event but scm_on gives 2, unless 1, 4 or 3 comes first. */
 enum scm_number {
     SCM_OK = 0,                     /* done */
     SCM_TOO_SHORT = 1,              /* lent output too short */
@@ -87,7 +89,9 @@ enum scm_number {
     SCM_NOT_READY = 12,             /* a client is not reporting ready */
     SCM_NOT_DISABLED = 13,          /* a client is still not disabled */
     SCM_NO_CLIENT = 14,             /* no enabled client */
-    SCM_NO_MATCH = 15               /* answer matches no sent step; ignored */
+    SCM_NO_MATCH = 15,              /* answer matches no sent step; ignored */
+    SCM_CHECK_WRONG = 16,           /* the check of a block is wrong */
+    SCM_NOT_STORED = 17             /* blocks that no sequence has, with every check right */
 };
 
 /* What a number says, for a log or a screen. Here and in the other texts each code has words of its own, and all that are no code share one text. */
@@ -110,6 +114,8 @@ static inline const char *scm_number_text(uint8_t number)
     case SCM_NOT_DISABLED: return "a client is still not disabled";
     case SCM_NO_CLIENT: return "no enabled client";
     case SCM_NO_MATCH: return "answer matches no sent step";
+    case SCM_CHECK_WRONG: return "the check of a block is wrong";
+    case SCM_NOT_STORED: return "blocks that no sequence has";
     default: return "no number of a call";
     }
 }
@@ -577,8 +583,8 @@ SCM_MUST_USE static inline uint8_t scm_shown(uint32_t value, int32_t offset, flo
 
 /* ---- The master: clients, states, recording and playback
 
-   The host owns the master's memory, one scm_master for each master, made by scm_init. The calls from scm_on to scm_answer are events and change it;
-   the readers after them answer in every state and change nothing.
+   The host owns the master's memory, one scm_master for each master, made by scm_init. The calls from scm_on to scm_load are events, and all of them
+   but scm_store change it; the readers after them answer in every state and change nothing.
 
      inactive --on--> ready --record--> record --stop--> record complete (while a step is open) --> ready
               <-off--       --start---> playback --all steps done--> ready
@@ -589,12 +595,15 @@ SCM_MUST_USE static inline uint8_t scm_shown(uint32_t value, int32_t offset, flo
    enabled    wanted, and its last report is another than disabled. A client's last report is disabled when it is attached, so scm_enable alone
               enables nobody: the client has to report something else.
    recording  what is taken from scm_record on. It has its own steps; the sequence stays as it was until the recording ends and has kept a step.
-   sequence   the steps that the last recording that kept any has kept, with the NAMEs and labels of their clients. It is what scm_start replays.
+   sequence   steps with the NAMEs and labels of their clients: those that the last recording that kept any has kept, in order of start, or those that
+              were loaded after it, in the order of their blocks. It is what scm_start replays.
    step       a function of a client that took a state, with its 32-bit value and its mark.
+   block      SCM_BLOCK_BYTES bytes of a stored sequence, with a check of their own; HOST.md has them as a table of bytes.
    tick       an accepted scm_tick, 100 ms. A recording numbers its ticks from 1, from the accepted scm_record on; a playback from the accepted
               scm_start on.
    mark       what a recording had counted when the step began: ticks, or millimetres where the function's trigger is SCM_TRIGGER_DISTANCE; 0 before
-              tick 1.
+              tick 1. Of a loaded step it is what its block says: at most 35,999 ticks or 2,359,194,465 mm. From step to step of a recording marks in
+              ticks do not fall, nor do those in millimetres; in a loaded sequence they may.
    due        a step is due at tick t of a playback where its mark is t or less; with a mark in millimetres, where so many or more have been driven
               since the accepted scm_start, those of tick t among them. Marks of 0 and 1 ticks are due at tick 1 alike.
    TAN        a byte that ties an answer to what it answers. A client gives each step of a recording one of its own; the master counts those of its
@@ -646,9 +655,10 @@ static inline const char *scm_report_text(uint8_t report)
     }
 }
 
-/* scm_step_view.distance: what a step's mark counts. */
+/* scm_step_view.distance: what a step's mark counts. Of a recorded step it goes by the function's trigger in the pool loaded then; of a loaded one
+   its block says it. */
 enum scm_mark {
-    SCM_MARK_TICKS = 0,             /* ticks: the function's trigger was SCM_TRIGGER_TIME or SCM_TRIGGER_EITHER */
+    SCM_MARK_TICKS = 0,             /* ticks: the trigger was SCM_TRIGGER_TIME or SCM_TRIGGER_EITHER */
     SCM_MARK_MILLIMETRES = 1        /* millimetres: it was SCM_TRIGGER_DISTANCE */
 };
 
@@ -670,9 +680,9 @@ typedef struct scm_slot_state {
     scm_profile profile;            /* what is kept of its pool */
 } scm_slot_state;
 
-/* What a sequence keeps of a client, as it was when its first step was stored. */
+/* What a sequence or a recording keeps of a client, as it was when its first step was taken; of a loaded sequence as its blocks say. */
 typedef struct scm_client_record {
-    uint8_t used;                   /* 1 where the sequence has a step of this slot, else 0 and all else 0 */
+    uint8_t used;                   /* 1 where there is a step of this slot, else 0 and all else 0 */
     uint64_t name;                  /* the NAME that it was attached with */
     uint64_t master;                /* the master NAME of its pool */
     scm_label version;
@@ -685,8 +695,8 @@ typedef struct scm_sequence_step {
     uint8_t function;               /* function ID */
     uint8_t state;                  /* state ID */
     uint8_t distance;               /* enum scm_mark: what the mark counts */
-    uint32_t value;                 /* what the client sent, all 32 bits, whatever minimum and maximum say */
-    uint32_t mark;                  /* ticks or millimetres since the recording began, as its start came; 0 before the first tick */
+    uint32_t value;                 /* what the client sent, or as loaded: all 32 bits, whatever minimum and maximum say */
+    uint32_t mark;                  /* ticks or millimetres since the recording began, as its start came, 0 before the first tick; or as loaded */
 } scm_sequence_step;
 
 /* A step while it is recorded. Its value is 0 while it is open, and stays 0 where it failed. */
@@ -703,10 +713,10 @@ typedef struct scm_sent_step {
     uint32_t left;                  /* the tick of the playback at which it first left */
 } scm_sent_step;
 
-/* A sequence. Used cells come first, clients stand by slot, unused cells are 0. */
+/* A sequence, from a recording or from a load. Used cells come first, clients stand by slot, unused cells are 0. */
 typedef struct scm_sequence {
     size_t count;                   /* steps */
-    scm_sequence_step steps[64];    /* in order of start */
+    scm_sequence_step steps[64];    /* in order of start; of a loaded sequence in the order of its blocks */
     scm_client_record clients[8];   /* by slot */
 } scm_sequence;
 
@@ -727,7 +737,8 @@ typedef struct scm_playback {
     scm_sent_step commands[64];     /* that of step i of the sequence is command i */
 } scm_playback;
 
-/* A master: plain data without pointers, 24,496 bytes. It may be copied, and kept in a file for the same version of the library. */
+/* A master: plain data without pointers, 24,496 bytes. It may be copied, and kept in a file for the same version of the library. What is to outlast
+   that is the sequence, by scm_store. */
 typedef struct scm_master {
     uint8_t state;                  /* enum scm_states */
     uint8_t tan;                    /* that of the last new command */
@@ -737,7 +748,8 @@ typedef struct scm_master {
     scm_playback playback;
 } scm_master;
 
-/* What an event gives by value. code and object belong to number 6, count to a tick; else they are 0. */
+/* What an event gives by value. code and object belong to number 6; count is the frames of a tick, or the bytes that a store has written. Else they
+   are 0. */
 typedef struct scm_outcome {
     uint8_t number;                 /* enum scm_number */
     uint8_t code;
@@ -811,6 +823,8 @@ SCM_MUST_USE scm_outcome scm_master_start(scm_master master);
 SCM_MUST_USE scm_outcome scm_master_abort(scm_master master);
 SCM_MUST_USE scm_outcome scm_master_tick(scm_master master, uint32_t mm, uint8_t *frames, size_t frames_len);
 SCM_MUST_USE scm_outcome scm_master_answer(scm_master master, size_t slot, const uint8_t *msg, size_t msg_len, uint8_t *out, size_t out_len);
+SCM_MUST_USE scm_outcome scm_master_store(scm_master master, uint8_t *blocks, size_t blocks_len);
+SCM_MUST_USE scm_outcome scm_master_load(scm_master master, const uint8_t *blocks, size_t blocks_len);
 SCM_MUST_USE uint8_t scm_master_state(uint8_t state);
 SCM_MUST_USE scm_slot_result scm_master_slot(scm_master master, size_t slot);
 SCM_MUST_USE size_t scm_master_step_count(scm_sequence sequence);
@@ -1054,7 +1068,7 @@ SCM_MUST_USE static inline uint8_t scm_client_abort(scm_master *m, size_t slot, 
      0   the state is playback. A tick every 100 ms from now on; tell the clients by the status message. Commands leave whether or not they report
          playback
      2   not in ready
-     7   the sequence has no step: nothing was ever recorded and kept
+     7   the sequence has no step: nothing was ever recorded and kept, or loaded
      8   a client of the sequence is not enabled: its slot is empty, or it is not wanted, or its last report is disabled
      9   its NAME differs from the one kept: another machine, by the rule of HOST.md, "Who may replay"
      10  its version label or its configuration label differs from the one kept
@@ -1062,7 +1076,8 @@ SCM_MUST_USE static inline uint8_t scm_client_abort(scm_master *m, size_t slot, 
      12  its last report is not ready. Clients that are not in the sequence need not be ready
 
    They are looked at in this order: 7; then slot by slot, lowest first, 8, 9, 10; then step by step 11; then slot by slot 12. Which slot or step it
-   is, scm_verify says. What is replayed is the sequence: after a recording that kept no step, or was thrown away, it is the one before. */
+   is, scm_verify says. What is replayed is the sequence: after a recording that kept no step, or was thrown away, it is the one before. One that was
+   loaded is checked and replayed as one that was recorded. */
 SCM_MUST_USE static inline uint8_t scm_start(scm_master *m)
 {
     scm_outcome o = scm_master_start(*m);
@@ -1130,6 +1145,49 @@ SCM_MUST_USE static inline uint8_t scm_answer(scm_master *m, size_t slot, const 
     return scm_moved_on(m, &o);
 }
 
+/* Writes the sequence to the front of blocks, as blocks of SCM_BLOCK_BYTES, each with its check: what a host keeps in a file, and what scm_load
+   takes, in this master or another one. In ready. The master is only read, and no client need be attached. The blocks hold the steps and, of each of
+   their clients, slot, NAME, master NAME and labels; they hold no pool, and nothing of the master's state, of its TAN or of who is attached.
+
+     0  the first *written bytes of blocks are the sequence, the others stay
+     1  len is below the bytes of the sequence's blocks: 1 + clients / 3 + steps / 31 of them, each quotient rounded up. SCM_STORE_BYTES are always
+        enough; with no step none are asked for
+     2  not in ready
+     7  the sequence has no step: there is nothing to keep
+
+   *written: with 0 the bytes of the blocks, 1,536 to SCM_STORE_BYTES; else 0.
+   Afterwards: write them to a file beside the old one, flush, and rename, so that a power cut leaves the old file or the new one; HOST.md, "A
+   sequence in a file", has the order. The same sequence gives the same bytes. The messages D.12 to D.15, by which a client has its pool stored and
+   loaded, have nothing to do with this. */
+SCM_MUST_USE static inline uint8_t scm_store(const scm_master *m, uint8_t *blocks, size_t len, size_t *written)
+{
+    scm_outcome o = scm_master_store(*m, blocks, len);
+    if (written != NULL) {
+        *written = o.count;
+    }
+    return o.number;
+}
+
+/* Takes up a sequence that scm_store has written: hand over just the bytes that it wrote, which is the whole file. Any bytes at all are judged. In
+   ready. The sequence that stood there is replaced, and not asked back: store it first where it is to be kept. Nothing else changes: clients, their
+   last reports, the TAN and the state are as they were.
+
+     0   the sequence is that of the blocks, step for step, with what they keep of its clients
+     2   not in ready
+     16  the check of a block is wrong, of any whole block among the bytes: they are not what was written. The file is damaged, not the drill: take
+         another copy of it
+     17  every whole block has its check, and yet no sequence is stored so: len is 0 or no number of whole blocks, blocks are missing or left over, a
+         count or a field is out of its range, a fill is not 0, a slot has two records, a step has no record of its client, or a record has no step.
+         The file was cut, or written by something else or by a later version: do not mend it
+
+   Afterwards: scm_step_count, scm_step and scm_client show what was loaded, and scm_verify whether it may be replayed: scm_start checks it as it
+   checks one that was recorded. Every whole block is looked at, however many there are: read no more of a file than SCM_STORE_BYTES and one. */
+SCM_MUST_USE static inline uint8_t scm_load(scm_master *m, const uint8_t *blocks, size_t len)
+{
+    scm_outcome o = scm_master_load(*m, blocks, len);
+    return scm_moved_on(m, &o);
+}
+
 /* ---- Readers: for the screen and the status message. They answer in every state and change nothing; a view is always written unless it is NULL. */
 
 /* A slot as a host sees it. An empty slot is all 0. */
@@ -1158,7 +1216,7 @@ typedef struct scm_check_view {
 /* What a sequence keeps of a client, as a host sees it. */
 typedef struct scm_client_view {
     uint8_t used;                   /* 1 where the sequence has a step of this slot, else 0 and all else 0 */
-    uint64_t name;                  /* the NAME that it was attached with when its first step was stored */
+    uint64_t name;                  /* the NAME that it was attached with when its first step was recorded */
     uint64_t master_name;           /* the master NAME of its pool then */
     uint8_t version_length;
     uint8_t version[63];

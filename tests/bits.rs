@@ -2,18 +2,23 @@
 //! of them too, and each tag that no call gives counts as a named one, as docs/DECISIONS.md says under "The master's state".
 
 use crate::library::{self, CheckView, Master, Outcome, Plain, ProgressView, Step, NO_CLIENT, NO_SENT, NO_STEP, NO_TAKEN};
+use crate::master::blocks::{self, DAMAGES};
 use crate::master::event::Event;
+use crate::master::{render, stored};
 use crate::pool::generate::{Pool, Random, Shape};
 use std::collections::{BTreeMap, BTreeSet};
 use std::rc::Rc;
 
 const COUNT: u64 = 1_000;
 const SEED: u64 = 11_783;
-/// The lent bytes stand at the head of so many.
+/// The lent bytes stand at the head of so many, or of so many more than they are.
 const BUFFER: usize = 600;
+const BEHIND: usize = 24;
 
 pub struct Run {
     random: Random,
+    /// What is stored and loaded is chosen by this.
+    storing: Random,
     pool: Rc<Vec<u8>>,
     /// The numbers that each call gave.
     met: BTreeMap<&'static str, BTreeSet<u8>>,
@@ -45,7 +50,7 @@ impl Run {
         let mut random = Random::new(seed);
         let shape = Shape { functions: 6, states: 8, shortest: 0, longest: 8, unlisted: 1 };
         let pool = Rc::new(Pool::legal(&mut random, shape, 4_000).bytes());
-        Run { random, pool, met: BTreeMap::new() }
+        Run { random, storing: Random::new(!seed), pool, met: BTreeMap::new() }
     }
 
     /// All bits by chance; mostly some tags in range or next to it, so that calls go further than their first test.
@@ -147,7 +152,27 @@ impl Run {
             Event::Abort,
             Event::Tick { millimetres, room: frames },
             Event::Answer { slot: answer.0, message: answer.1, room: eight },
+            self.store(m),
+            self.load(m),
         ]
+    }
+
+    /// Mostly as much room as is needed.
+    fn store(&mut self, m: &Master) -> Event {
+        let needed = blocks_of(m).len();
+        Event::Store { room: self.storing.pick(&[needed, needed, needed + 9, 4_096, needed.saturating_sub(1), 0]) }
+    }
+
+    /// Blocks of a sequence, the same damaged, or what this master has, whatever that is.
+    fn load(&mut self, m: &Master) -> Event {
+        let sequence = blocks::any_sequence(&mut self.storing);
+        let damage = self.storing.pick(DAMAGES).1;
+        let blocks = match self.storing.below(8) {
+            0 => blocks_of(m),
+            1..=3 => blocks::damaged(&sequence, damage, &mut self.storing),
+            _ => stored::of(&sequence),
+        };
+        Event::Load { blocks: Rc::new(blocks) }
     }
 
     fn slot(&mut self) -> usize {
@@ -181,11 +206,11 @@ impl Run {
 
     /// One call on one master.
     fn hold(&mut self, event: &Event, m: &Master) {
-        let random = &mut self.random;
-        let before: Vec<u8> = (0..BUFFER).map(|_| random.number() as u8).collect();
+        let random = if let Event::Store { .. } | Event::Load { .. } = event { &mut self.storing } else { &mut self.random };
+        let before: Vec<u8> = (0..BUFFER.max(event.room() + BEHIND)).map(|_| random.number() as u8).collect();
         let mut lent = before.clone();
         let given = event.on_library(m, &mut lent[..event.room()]);
-        if given.number > 15 {
+        if given.number > 17 {
             fail("a number that is in no table", event, &given);
         }
         if given.number != 0 && (given.master != *m || lent != before) {
@@ -197,7 +222,7 @@ impl Run {
         if lent[event.room()..] != before[event.room()..] {
             fail("bytes that are not lent are changed", event, &given);
         }
-        if let Some(wrong) = broken(event, m, &given, &lent) {
+        if let Some(wrong) = broken(event, m, &given, &before, &lent) {
             fail(wrong, event, &given);
         }
         let mut other = before;
@@ -257,8 +282,45 @@ fn named(m: &Master) -> Master {
     m
 }
 
-/// What 01 says of a call in every state.
-fn broken(event: &Event, m: &Master, given: &Outcome, lent: &[u8]) -> Option<&'static str> {
+/// The blocks of any sequence, as its fields stand: a used of any number but 0 is a record, a count above 64 counts as 64; none with no step.
+fn blocks_of<'a>(m: &'a Master) -> Vec<u8> {
+    let used = m.sequence.clients.iter().zip(0..).filter(|(client, _)| client.used != 0);
+    let label = |label: &'a library::Label| -> stored::Label<'a> { (label.length, &label.bytes) };
+    let record = |(it, slot): (&'a library::Client, u8)| stored::record(slot, it.name, it.master, label(&it.version), label(&it.configuration));
+    let records: Vec<_> = used.map(record).collect();
+    let steps = m.sequence.steps.iter().take(m.sequence.count);
+    let steps: Vec<_> = steps.map(|it| stored::step([it.slot, it.function, it.state, it.distance], it.mark, it.value)).collect();
+    if steps.is_empty() { Vec::new() } else { stored::blocks(&records, &steps) }
+}
+
+/// Whether a store is not what the model says of it.
+fn wrongly_stored(m: &Master, given: &Outcome, room: usize, before: &[u8], lent: &[u8]) -> bool {
+    let blocks = blocks_of(m);
+    let wanted = match (m.state, blocks.len()) {
+        (_, needed) if room < needed => 1,
+        (1, 0) => 7,
+        (1, _) => 0,
+        _ => 2,
+    };
+    let written = if wanted == 0 { blocks.len() } else { 0 };
+    let right = lent[..written] == blocks[..written] && lent[written..] == before[written..];
+    (given.number, given.count as usize) != (wanted, written) || !right || given.master != *m
+}
+
+/// Whether a load is not what the model says of it.
+fn wrongly_loaded(m: &Master, given: &Outcome, blocks: &[u8]) -> bool {
+    let (wrong, reasons) = (stored::wrong_checks(blocks), stored::reasons(blocks));
+    let (wanted, sequence) = match m.state {
+        1 if !wrong.is_empty() => (16, m.sequence),
+        1 if !reasons.is_empty() => (17, m.sequence),
+        1 => (0, render::sequence(&stored::read(blocks))),
+        _ => (2, m.sequence),
+    };
+    (given.number, given.count) != (wanted, 0) || given.master != (Master { sequence, ..*m })
+}
+
+/// What 01 and 02 say of a call in every state.
+fn broken(event: &Event, m: &Master, given: &Outcome, before: &[u8], lent: &[u8]) -> Option<&'static str> {
     let wrong = match event {
         Event::On => given.number != if m.state == 0 { 0 } else { 2 } || given.number == 0 && given.master != (Master { state: 1, ..*m }),
         Event::Off => given.number == 0 && given.master != (Master { state: 0, ..*m }),
@@ -267,6 +329,8 @@ fn broken(event: &Event, m: &Master, given: &Outcome, lent: &[u8]) -> Option<&'s
             let frames = 9 * given.count as usize;
             given.number != wanted || given.number == 0 && lent[frames..576].iter().any(|&byte| byte != 0)
         }
+        Event::Store { room } => wrongly_stored(m, given, *room, before, lent),
+        Event::Load { blocks } => wrongly_loaded(m, given, blocks),
         _ => m.state == 0 && ![1, 2, 3, 4].contains(&given.number),
     };
     if wrong { Some("not what the rules say") } else { None }

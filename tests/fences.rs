@@ -159,9 +159,10 @@ impl Run {
         }
     }
 
-    /// Every reader, on a master that is lent to be read.
+    /// Every reader, and a store, on a master that is lent to be read.
     fn readers(&mut self, m: &Master, upper: bool) {
         let m = self.input.sealed(m, upper);
+        library::store_of(m, self.output.lend(3_584, upper));
         library::state(m);
         library::step_count(m);
         library::progress(m);
@@ -173,7 +174,7 @@ impl Run {
             library::taken(m, i);
             library::sent(m, i);
         }
-        self.calls += 34;
+        self.calls += 35;
         self.input.open(READ_AND_WRITE);
     }
 
@@ -210,6 +211,8 @@ impl Run {
                 Event::ClientAbort { slot, .. } => library::client_abort(&m, slot, read),
                 Event::Tick { millimetres, .. } => library::tick(&m, millimetres, out),
                 Event::Answer { slot, .. } => library::answer(&m, slot, read, out),
+                Event::Store { .. } => library::store(&m, out),
+                Event::Load { .. } => library::load(&m, read),
                 _ => continue,
             };
             self.calls += 1;

@@ -29,10 +29,10 @@ const size_t through_layout_rows = sizeof through_layout / sizeof through_layout
 
 const layout_row through_names[] = {
     NAMED(SCM_SLOTS) NAMED(SCM_STEPS) NAMED(SCM_POOL_BYTES) NAMED(SCM_OBJECT_BYTES) NAMED(SCM_MESSAGE_BYTES) NAMED(SCM_ANSWER_TICKS)
-    NAMED(SCM_LAST_TICK) NAMED(SCM_ANSWER_BYTES) NAMED(SCM_FRAME_BYTES) NAMED(SCM_FRAMES_BYTES)
+    NAMED(SCM_LAST_TICK) NAMED(SCM_ANSWER_BYTES) NAMED(SCM_FRAME_BYTES) NAMED(SCM_FRAMES_BYTES) NAMED(SCM_BLOCK_BYTES) NAMED(SCM_STORE_BYTES)
     NAMED(SCM_OK) NAMED(SCM_TOO_SHORT) NAMED(SCM_WRONG_STATE) NAMED(SCM_WRONG_SLOT) NAMED(SCM_WRONG_VALUE) NAMED(SCM_NOT_EXPECTED)
     NAMED(SCM_POOL_REFUSED) NAMED(SCM_NO_STEP) NAMED(SCM_NOT_ENABLED) NAMED(SCM_NAME_DIFFERS) NAMED(SCM_LABEL_DIFFERS) NAMED(SCM_NOT_IN_POOL)
-    NAMED(SCM_NOT_READY) NAMED(SCM_NOT_DISABLED) NAMED(SCM_NO_CLIENT) NAMED(SCM_NO_MATCH)
+    NAMED(SCM_NOT_READY) NAMED(SCM_NOT_DISABLED) NAMED(SCM_NO_CLIENT) NAMED(SCM_NO_MATCH) NAMED(SCM_CHECK_WRONG) NAMED(SCM_NOT_STORED)
     NAMED(SCM_POOL_TAKEN) NAMED(SCM_POOL_UNKNOWN_TYPE) NAMED(SCM_POOL_NO_BASE) NAMED(SCM_POOL_NO_FUNCTION) NAMED(SCM_POOL_NO_STATE)
     NAMED(SCM_POOL_NUMBER_TWICE) NAMED(SCM_POOL_FUNCTION_TWICE) NAMED(SCM_POOL_STATE_TWICE) NAMED(SCM_POOL_VERSION_LENGTH)
     NAMED(SCM_POOL_VERSION_BYTES) NAMED(SCM_POOL_CONFIGURATION_LENGTH) NAMED(SCM_POOL_WRONG_VERSION) NAMED(SCM_POOL_OTHER)
@@ -129,6 +129,8 @@ THROUGH(uint8_t, through_tick, (scm_master *m, uint32_t mm, uint8_t *frames, siz
         return scm_tick(m, mm, frames, frames_len, count))
 THROUGH(uint8_t, through_answer, (scm_master *m, size_t slot, const uint8_t *msg, size_t len, uint8_t *out, size_t out_len),
         return scm_answer(m, slot, msg, len, out, out_len))
+THROUGH(uint8_t, through_store, (const scm_master *m, uint8_t *blocks, size_t len, size_t *written), return scm_store(m, blocks, len, written))
+THROUGH(uint8_t, through_load, (scm_master *m, const uint8_t *blocks, size_t len), return scm_load(m, blocks, len))
 THROUGH(uint8_t, through_state, (const scm_master *m), return scm_state(m))
 THROUGH(uint8_t, through_slot, (const scm_master *m, size_t slot, scm_slot_view *view), return scm_slot(m, slot, view))
 THROUGH(size_t, through_step_count, (const scm_master *m), return scm_step_count(m))
@@ -165,6 +167,8 @@ THROUGH(void, value_tick, (const scm_master *m, uint32_t mm, uint8_t *frames, si
 THROUGH(void, value_answer,
         (const scm_master *m, size_t slot, const uint8_t *msg, size_t len, uint8_t *out, size_t out_len, scm_outcome *o),
         *o = scm_master_answer(*m, slot, msg, len, out, out_len))
+THROUGH(void, value_store, (const scm_master *m, uint8_t *blocks, size_t len, scm_outcome *o), *o = scm_master_store(*m, blocks, len))
+THROUGH(void, value_load, (const scm_master *m, const uint8_t *blocks, size_t len, scm_outcome *o), *o = scm_master_load(*m, blocks, len))
 THROUGH(uint8_t, value_state, (uint8_t state), return scm_master_state(state))
 THROUGH(void, value_slot, (const scm_master *m, size_t slot, scm_slot_result *r), *r = scm_master_slot(*m, slot))
 THROUGH(size_t, value_step_count, (const scm_sequence *sequence), return scm_master_step_count(*sequence))

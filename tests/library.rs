@@ -233,7 +233,7 @@ structs! {
         playback: Playback,
     }
 
-    /// What an event gives: code and object come from an attachment, count from a tick; with any other wrapper they are 0 here.
+    /// What an event gives: code and object come from an attachment, count from a tick or a store; with any other wrapper they are 0 here.
     "scm_outcome" Outcome {
         number: u8,
         code: u8,
@@ -579,6 +579,8 @@ extern "C" {
     fn through_abort(m: *mut Master) -> u8;
     fn through_tick(m: *mut Master, mm: u32, frames: *mut u8, frames_len: usize, count: *mut u32) -> u8;
     fn through_answer(m: *mut Master, slot: usize, msg: *const u8, len: usize, out: *mut u8, out_len: usize) -> u8;
+    fn through_store(m: *const Master, blocks: *mut u8, len: usize, written: *mut usize) -> u8;
+    fn through_load(m: *mut Master, blocks: *const u8, len: usize) -> u8;
     fn through_state(m: *const Master) -> u8;
     fn through_slot(m: *const Master, slot: usize, view: *mut SlotView) -> u8;
     fn through_step_count(m: *const Master) -> usize;
@@ -687,6 +689,29 @@ pub fn tick(m: &Master, mm: u32, frames: &mut [u8]) -> Outcome {
 #[inline(never)]
 pub fn answer(m: &Master, slot: usize, message: &[u8], out: &mut [u8]) -> Outcome {
     event(m, |m| unsafe { through_answer(m, slot, message.as_ptr(), message.len(), out.as_mut_ptr(), out.len()) })
+}
+
+/// The number, and the bytes written; the master is only read.
+pub fn store_of(m: &Master, blocks: &mut [u8]) -> (u8, usize) {
+    numbered(|written| unsafe { through_store(m, blocks.as_mut_ptr(), blocks.len(), written) })
+}
+
+/// A number of bytes that 32 bits cannot hold would be the greatest that they can, which no store writes.
+#[inline(never)]
+pub fn store(m: &Master, blocks: &mut [u8]) -> Outcome {
+    let mut written = 0;
+    let mut outcome = event(m, |m| {
+        let (number, bytes) = store_of(m, blocks);
+        written = bytes;
+        number
+    });
+    outcome.count = written.try_into().unwrap_or(u32::MAX);
+    outcome
+}
+
+#[inline(never)]
+pub fn load(m: &Master, blocks: &[u8]) -> Outcome {
+    event(m, |m| unsafe { through_load(m, blocks.as_ptr(), blocks.len()) })
 }
 
 pub fn state(m: &Master) -> u8 {

@@ -1,5 +1,5 @@
-//! The numbers that have names in the header: its version, which the library has too; sizes and limits, which are those of document 01; and every
-//! code, by the tables of ISO 11783-14 and of document 01, or by the library's own numbering, which the models of the tests have too.
+//! The numbers that have names in the header: its version, which the library has too; sizes and limits, which are those of documents 01 and 02; and
+//! every code, by the tables of ISO 11783-14 and of both documents, or by the library's own numbering, which the models of the tests have too.
 
 use crate::library;
 use std::collections::BTreeMap;
@@ -11,12 +11,16 @@ const NAMES: &[Names] = &[
     &[("SCM_SLOTS", 8), ("SCM_STEPS", 64), ("SCM_POOL_BYTES", 16_384), ("SCM_OBJECT_BYTES", 27 + 63 + 63 + 2 * 255)],
     // "D.3 and D.5 are max(8, 3 + label length) bytes". "A first answer after 15 ticks is in time". "tick 36,000".
     &[("SCM_MESSAGE_BYTES", 80), ("SCM_ANSWER_TICKS", 15), ("SCM_LAST_TICK", 36_000)],
+    // Document 02: "blocks of 512 bytes"; a sequence has "at most 7" of them.
+    &[("SCM_BLOCK_BYTES", 512), ("SCM_STORE_BYTES", 7 * 512)],
     // E.2, E.5 and E.8. "A tick fills a frame buffer of 576 bytes, nine to a frame".
     &[("SCM_ANSWER_BYTES", 8), ("SCM_FRAME_BYTES", 9), ("SCM_FRAMES_BYTES", 576)],
     // "Numbers a call gives back"
     &[("SCM_OK", 0), ("SCM_TOO_SHORT", 1), ("SCM_WRONG_STATE", 2), ("SCM_WRONG_SLOT", 3), ("SCM_WRONG_VALUE", 4), ("SCM_NOT_EXPECTED", 5)],
     &[("SCM_POOL_REFUSED", 6), ("SCM_NO_STEP", 7), ("SCM_NOT_ENABLED", 8), ("SCM_NAME_DIFFERS", 9), ("SCM_LABEL_DIFFERS", 10)],
     &[("SCM_NOT_IN_POOL", 11), ("SCM_NOT_READY", 12), ("SCM_NOT_DISABLED", 13), ("SCM_NO_CLIENT", 14), ("SCM_NO_MATCH", 15)],
+    // "16 the check of a whole lent block, 17 counts or fields out of range"
+    &[("SCM_CHECK_WRONG", 16), ("SCM_NOT_STORED", 17)],
     // D.9
     &[("SCM_POOL_TAKEN", 0x00), ("SCM_POOL_UNKNOWN_TYPE", 0x01), ("SCM_POOL_NO_BASE", 0x02), ("SCM_POOL_NO_FUNCTION", 0x03)],
     &[("SCM_POOL_NO_STATE", 0x04), ("SCM_POOL_NUMBER_TWICE", 0x05), ("SCM_POOL_FUNCTION_TWICE", 0x06), ("SCM_POOL_STATE_TWICE", 0x07)],

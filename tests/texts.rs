@@ -7,8 +7,8 @@ use std::collections::BTreeSet;
 type Words = (&'static str, &'static [u8], fn(u8) -> String);
 
 const WORDS: &[Words] = &[
-    // "Numbers a call gives back"
-    ("number", &[0, 1, 2, 3, 4, 5, 6, 7, 8, 9, 10, 11, 12, 13, 14, 15], library::number_text),
+    // "Numbers a call gives back", and of document 02 the refusals of request 1
+    ("number", &[0, 1, 2, 3, 4, 5, 6, 7, 8, 9, 10, 11, 12, 13, 14, 15, 16, 17], library::number_text),
     // D.9. "Code 08 is never given".
     ("pool code", &[0x00, 0x01, 0x02, 0x03, 0x04, 0x05, 0x06, 0x07, 0x09, 0x0A, 0x0B, 0x0C, 0xFF], library::pool_code_text),
     // Inactive, ready, record, record complete, playback, abort.

@@ -9,7 +9,7 @@ use std::fmt::Debug;
 
 const COUNT: u64 = 300;
 const SEED: u64 = 11_783;
-const BUFFER: usize = 1_300;
+const BUFFER: usize = 4_100;
 
 struct Run {
     random: Random,
@@ -96,7 +96,7 @@ impl Run {
         self.same("verify", unwanted::verify(m), library::verify(m).0);
     }
 
-    /// The events that have out-parameters: a tick, and an attachment, without one or both.
+    /// The events that have out-parameters: a tick, a store, and an attachment, without one or both.
     fn event(&mut self, event: &Event, m: &Master) {
         match event {
             Event::Tick { millimetres, room } => {
@@ -109,6 +109,7 @@ impl Run {
                 let number = unwanted::tick(&mut after, *millimetres, &mut other[..*room]);
                 self.same("tick", ((number, after), other), (with(&mut one[..*room]), one));
             }
+            Event::Store { room } => self.lent("store", *room, |out| library::store_of(m, out), |out| unwanted::store(m, out)),
             Event::Attach { slot, name, pool } => {
                 let given = library::attach(m, *slot, *name, pool);
                 for (code_wanted, object_wanted) in [(true, false), (false, true), (false, false)] {

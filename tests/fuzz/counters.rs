@@ -4,11 +4,11 @@
 use std::sync::atomic::{AtomicU8, Ordering::Relaxed};
 
 const STATES: usize = 6;
-const CALLS: usize = 16;
-const NUMBERS: usize = 16;
+const CALLS: usize = 18;
+const NUMBERS: usize = 18;
 const PATHS: usize = CALLS * NUMBERS * STATES * STATES;
 /// Each of the other tables has a row for each thing counted.
-const ROWS: usize = 16;
+const ROWS: usize = 18;
 const ROW: usize = 256;
 const ALL: usize = PATHS + ROWS * ROW;
 
@@ -50,6 +50,10 @@ pub enum Row {
     Verified,
     /// The kind of an object written, by number.
     Object,
+    /// Why blocks are refused: the place of a wrong check, or of a reason for 17.
+    Refused,
+    /// Clients and steps of a sequence that was stored or loaded.
+    Kept,
 }
 
 fn bump(place: usize) {

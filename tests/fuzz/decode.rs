@@ -7,6 +7,7 @@ use crate::model::{State, SLOTS};
 use crate::pair::{Pair, BUFFER};
 use crate::playback::Answered;
 use crate::pools::{edited, Pools};
+use crate::storing::Known;
 use std::rc::Rc;
 
 /// So many events, at most, of one input.
@@ -54,7 +55,9 @@ pub mod op {
     pub const PLAY: u8 = 25; // speed, how many: ticks, each with an answer "done" to what is sent
     pub const READERS: u8 = 26;
     pub const EDITED: u8 = 27; // as ATTACH, with edits of the pool
-    pub const ALL: u8 = 28;
+    pub const STORE: u8 = 28;
+    pub const LOAD: u8 = 29; // from which blocks, and their operands; how many edits, and these
+    pub const ALL: u8 = 30;
 }
 
 /// What is left of an input.
@@ -102,16 +105,19 @@ struct Twist {
 pub struct Play<'a> {
     pub pair: &'a mut Pair,
     pub pools: &'a Pools,
+    known: &'a Known,
+    /// What was stored last.
+    stored: Vec<u8>,
     bytes: Bytes<'a>,
     twist: Twist,
     end: u64,
 }
 
 impl<'a> Play<'a> {
-    pub fn new(pair: &'a mut Pair, pools: &'a Pools, bytes: Bytes<'a>) -> Play<'a> {
+    pub fn new(pair: &'a mut Pair, pools: &'a Pools, known: &'a Known, bytes: Bytes<'a>) -> Play<'a> {
         pair.begin();
         let end = pair.events + MOST_EVENTS;
-        Play { pair, pools, bytes, twist: Twist::default(), end }
+        Play { pair, pools, known, stored: Vec::new(), bytes, twist: Twist::default(), end }
     }
 
     pub fn run(mut self) {
@@ -145,6 +151,8 @@ impl<'a> Play<'a> {
             op::PLAY => self.play(),
             op::RAW => self.raw(),
             op::READERS => self.pair.readers(),
+            op::STORE => self.store(),
+            op::LOAD => self.load(),
             op::LEND => self.twist.room = self.bytes.next(),
             op::FAR => self.twist.far = self.bytes.next(),
             op::SPOIL => self.twist.spoil = Some((self.bytes.byte(), self.bytes.byte())),
@@ -317,6 +325,21 @@ impl<'a> Play<'a> {
         }
     }
 
+    fn store(&mut self) {
+        let needed = self.pair.model.stored_bytes();
+        let twisted = self.twist.room.is_some();
+        self.does(Event::Store { room: needed });
+        if !twisted && needed > 0 && self.pair.library.state == 1 {
+            self.stored = self.pair.lent[..needed].to_vec();
+        }
+    }
+
+    /// What was stored last, or blocks that are known, with an edit or two.
+    fn load(&mut self) {
+        let blocks = self.known.blocks(&mut self.bytes, &self.stored, 2);
+        self.does(Event::Load { blocks: Rc::new(blocks) });
+    }
+
     /// Any bytes of any length to one of the calls that read a message.
     fn raw(&mut self) {
         let byte = self.bytes.byte();
@@ -352,11 +375,12 @@ fn lend(event: &mut Event, lent: u8) {
     | Event::Disable { room, .. }
     | Event::Indication { room, .. }
     | Event::Tick { room, .. }
-    | Event::Answer { room, .. } = event
+    | Event::Answer { room, .. }
+    | Event::Store { room } = event
     {
         *room = match lent {
             0..=31 => 0,
-            32..=95 => *room - 1,
+            32..=95 => room.saturating_sub(1),
             96..=127 => *room + 1,
             128..=159 => BUFFER,
             _ => usize::from(lent) * 4 % BUFFER,

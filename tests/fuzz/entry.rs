@@ -6,16 +6,18 @@ use crate::decode::{Bytes, Play};
 use crate::message;
 use crate::pair::Pair;
 use crate::pools::{self, Pools};
+use crate::storing::{self, Known};
 use std::cell::RefCell;
 use std::fs::File;
 use std::io::Write;
 use std::os::unix::io::IntoRawFd;
 use std::sync::atomic::{AtomicI32, AtomicPtr, AtomicU64, AtomicUsize, Ordering::Relaxed};
 
-/// The first byte of an input, by four: on a master, on a master, a pool, a message.
+/// The first byte of an input, by five: on a master, on a master, a pool, a message, blocks.
 pub const MASTER: u8 = 0;
 pub const POOL: u8 = 2;
 pub const MESSAGE: u8 = 3;
+pub const BLOCKS: u8 = 4;
 
 /// The input that is being done, and the file that takes it if something is found.
 static INPUT: AtomicPtr<u8> = AtomicPtr::new(std::ptr::null_mut());
@@ -35,6 +37,7 @@ extern "C" {
 struct Harness {
     pair: Pair,
     pools: Pools,
+    known: Known,
 }
 
 thread_local! {
@@ -50,7 +53,7 @@ fn prepare() -> Harness {
         unsafe { signal(number, stopped) };
     }
     std::panic::set_hook(Box::new(|panic| found(&format!("the harness or the model cannot go on: {panic}"))));
-    Harness { pair: Pair::new(), pools: Pools::new() }
+    Harness { pair: Pair::new(), pools: Pools::new(), known: Known::new() }
 }
 
 /// # Safety
@@ -69,10 +72,11 @@ pub fn one_input(input: &[u8]) {
         INPUT.store(input.as_ptr() as *mut u8, Relaxed);
         LENGTH.store(input.len(), Relaxed);
         let mut bytes = Bytes(input);
-        match bytes.byte() % 4 {
+        match bytes.byte() % 5 {
             POOL => pools::judge(&harness.pools, &mut bytes),
             MESSAGE => message::judge(&mut bytes),
-            _ => Play::new(&mut harness.pair, &harness.pools, bytes).run(),
+            BLOCKS => storing::judge(&mut harness.pair, &harness.known, &mut bytes),
+            _ => Play::new(&mut harness.pair, &harness.pools, &harness.known, bytes).run(),
         }
         LENGTH.store(0, Relaxed);
         EVENTS.store(harness.pair.events, Relaxed);

@@ -1,10 +1,14 @@
-//! The fuzzer's harness: any bytes are events on a master, a pool or a message; they are done on the library and on the models of the other
-//! tests, all that both give is compared, and the promises of document 01 are checked on what the library gives.
+//! The fuzzer's harness: any bytes are events on a master, a pool, a message or blocks of a stored sequence; they are done on the library and
+//! on the models of the other tests, all that both give is compared, and the promises of documents 01 and 02 are checked on what the library
+//! gives.
 //!
 //! An engine calls `LLVMFuzzerTestOneInput`: libFuzzer, or the driver of driver.rs where that is not to be had.
 
 #![deny(warnings)]
 
+#[allow(dead_code)]
+#[path = "../master/blocks.rs"]
+mod blocks;
 #[allow(dead_code)]
 #[path = "../pool/model.rs"]
 mod check;
@@ -58,6 +62,10 @@ mod render;
 #[path = "../master/samples.rs"]
 mod samples;
 mod seeds;
+#[allow(dead_code)]
+#[path = "../master/stored.rs"]
+mod stored;
+mod storing;
 mod taken;
 #[allow(dead_code)]
 #[path = "../master/verification.rs"]

@@ -8,10 +8,12 @@ use crate::library::{self, Outcome};
 use crate::model::{self, State};
 use crate::promises::Promises;
 use crate::render::{view, Renderer};
+use crate::stored;
 use crate::taken::Log;
 
-/// The lent bytes stand at the head of so many, of which no other may change.
+/// The lent bytes stand at the head of so many or of so many more than they are, of which no other may change.
 pub const BUFFER: usize = 640;
+const BEHIND: usize = 64;
 const FRAMES: usize = 576;
 const LAST_TICK: u32 = 36_000;
 const READY: u8 = 1;
@@ -31,7 +33,8 @@ pub struct Pair {
     renderer: Renderer,
     promises: Promises,
     log: Log,
-    lent: [u8; BUFFER],
+    /// The bytes lent at the last event and those behind them, as the library left them.
+    pub lent: Vec<u8>,
 }
 
 impl Pair {
@@ -46,7 +49,7 @@ impl Pair {
             renderer: Renderer::new(),
             promises: Promises::new(),
             log: Log::default(),
-            lent: [0; BUFFER],
+            lent: Vec::new(),
         }
     }
 
@@ -62,11 +65,12 @@ impl Pair {
     /// The number that the event gave.
     pub fn event(&mut self, event: &Event) -> u8 {
         self.events += 1;
-        self.lent = lent(self.events);
-        let (room, before) = (event.room(), self.lent);
+        let room = event.room();
+        fill(&mut self.lent, self.events, room);
+        let before = self.lent.clone();
         let handed = event.handed().to_vec();
         let old = self.met.as_ref().map(|_| self.model.clone());
-        let mut wanted_bytes = before;
+        let mut wanted_bytes = before.clone();
         let wanted = event.on_model(&mut self.model, &mut wanted_bytes[..room]);
         let outcome = event.on_library(&self.library, &mut self.lent[..room]);
         self.tell(event, &outcome, old, &wanted);
@@ -220,6 +224,9 @@ impl Pair {
         if outcome.number == 6 {
             counters::count(Row::Attached, usize::from(outcome.code));
         }
+        if let Event::Load { blocks } = event {
+            count_refused(outcome.number, blocks);
+        }
         if outcome.number != 0 {
             return;
         }
@@ -235,6 +242,10 @@ impl Pair {
                 counters::count(Row::Answer, 64 + done);
             }
             Event::Start => counters::count(Row::Started, new.sequence.count),
+            Event::Store { .. } | Event::Load { .. } => {
+                counters::count(Row::Kept, new.sequence.clients.iter().filter(|client| client.used == 1).count());
+                counters::count(Row::Kept, 16 + new.sequence.count);
+            }
             _ => {}
         }
         let enabled = new.slots.iter().filter(|slot| slot.wanted == 1 && slot.report != 0).count();
@@ -267,8 +278,22 @@ impl Pair {
 }
 
 /// Other bytes at each event.
-fn lent(event: u64) -> [u8; BUFFER] {
-    [(event as u8).wrapping_mul(59) ^ 0xA5; BUFFER]
+fn fill(lent: &mut Vec<u8>, event: u64, room: usize) {
+    lent.clear();
+    lent.resize(BUFFER.max(room + BEHIND), (event as u8).wrapping_mul(59) ^ 0xA5);
+}
+
+/// For which reasons these blocks were refused.
+fn count_refused(number: u8, blocks: &[u8]) {
+    match number {
+        16 => stored::wrong_checks(blocks).into_iter().for_each(|place| counters::count(Row::Refused, place.min(15))),
+        17 => {
+            let holds = stored::reasons(blocks);
+            let places = stored::REASONS.iter().zip(16..).filter(|((reason, _), _)| holds.contains(reason));
+            places.for_each(|(_, place)| counters::count(Row::Refused, place));
+        }
+        _ => {}
+    }
 }
 
 fn compare_numbers(outcome: &Outcome, wanted: &model::Outcome) {
@@ -311,5 +336,7 @@ fn call(event: &Event) -> usize {
         Event::Abort => 13,
         Event::Tick { .. } => 14,
         Event::Answer { .. } => 15,
+        Event::Store { .. } => 16,
+        Event::Load { .. } => 17,
     }
 }

@@ -1,9 +1,11 @@
 //! The inputs to begin with, in words: nothing binary is kept, and an operation that changes its operands changes them here too.
 
 use crate::decode::op::*;
-use crate::entry::{MASTER, MESSAGE, POOL};
+use crate::blocks::DAMAGES;
+use crate::entry::{BLOCKS, MASTER, MESSAGE, POOL};
 use crate::pools::OBJECTS;
 use crate::samples::CHANGES;
+use crate::storing::{ANY, DAMAGED, KNOWN, OWN, TURNED};
 
 /// Reports by their place in the table of decode.rs.
 const READY: u8 = 0;
@@ -48,7 +50,7 @@ fn master(parts: &[&[u8]]) -> Vec<u8> {
 }
 
 pub fn seeds() -> Vec<Vec<u8>> {
-    [recordings(), playbacks(), others(), pools(), messages()].concat()
+    [recordings(), playbacks(), others(), stores(), pools(), messages(), blocks()].concat()
 }
 
 fn recordings() -> Vec<Vec<u8>> {
@@ -127,6 +129,28 @@ fn others() -> Vec<Vec<u8>> {
     ]
 }
 
+/// What was recorded is stored, and loaded after another recording, in another place, after a client was lost; and what is refused.
+fn stores() -> Vec<Vec<u8>> {
+    let own = &[LOAD, OWN, 0];
+    let short = &[LEND, 0, STORE, LEND, 40, STORE, LEND, 100, STORE, LEND, 140, STORE];
+    let damaged = |place: u8| [LOAD, DAMAGED + 2 * (place % 64), 0, place, 0];
+    let other = &[RECORD, ALL_REPORT, RECORDS, INDICATE, 0, VALUE, 7, STOP, ALL_REPORT, READY];
+    let full = &[RECORD, ALL_REPORT, RECORDS, MANY, 0, VALUE, 0, 63, STOP, ALL_REPORT, READY];
+    let played = &[START, PLAY, 3, 12, ALL_REPORT, READY];
+    let back = |variant: u8| [&BACK[..5], &[variant], &BACK[6..]].concat();
+    let refused: Vec<u8> = (0..8).flat_map(|place| damaged(7 * place)).collect();
+    let in_turn = [&[RECORD, STORE, LOAD, OWN, 0, CANCEL, STORE][..], &[LOAD, KNOWN, 0, START, STORE]].concat();
+    vec![
+        master(&[&[STORE, LOAD, KNOWN, 0, ON, STORE, LOAD, KNOWN, 0, STORE]]),
+        master(&[CLIENTS, RECORDING, &[STORE], other, own, played, own]),
+        master(&[CLIENTS, RECORDING, short, &[STORE], &in_turn]),
+        master(&[CLIENTS, full, &[STORE], RECORDING, own, &[START, PLAY, 0, 64]]),
+        master(&[CLIENTS, RECORDING, &[STORE], &back(1), own, &back(7), own, &back(12)]),
+        master(&[CLIENTS, RECORDING, &[STORE], &refused, own, &played[..2], &refused, &[STORE]]),
+        master(&[CLIENTS, RECORDING, &[STORE, LOAD, OWN + 1, 1, 0, 0, 6, 7, LOAD, OWN, 1, 0, 0, 6, 8, START]]),
+    ]
+}
+
 /// Legal ones, one with a byte changed, one of zeros, and damaged ones; and objects that are written, as they are and with a field edited.
 fn pools() -> Vec<Vec<u8>> {
     let mut seeds = vec![vec![POOL, 0, 0], vec![POOL, 1, 0, 0, 30, 0, 65], vec![POOL, 4, 0], [&[POOL, 128, 0][..], &[0; 30]].concat()];
@@ -145,5 +169,20 @@ fn messages() -> Vec<Vec<u8>> {
         [&[MESSAGE, 230, 1, 0][..], &[7; 12]].concat(),
     ];
     seeds.extend((1..=25).map(|kind| [&[MESSAGE, 100, kind, 80][..], &[0, 7].repeat(10)].concat()));
+    seeds
+}
+
+/// Known ones, their records in another order too, each kind of damage on the least and the largest, an edit with the checks made right and
+/// without, and zeros.
+fn blocks() -> Vec<Vec<u8>> {
+    let mut seeds: Vec<Vec<u8>> = (0..8).map(|which| vec![BLOCKS, 128 * (which % 2), KNOWN + 2 * which, 0]).collect();
+    seeds.extend((0..8).map(|which| vec![BLOCKS, 0, TURNED + 2 * which, which, 0]));
+    for damage in 0..DAMAGES.len() as u8 {
+        seeds.extend([0, 1].map(|which| vec![BLOCKS, 0, DAMAGED + 2 * damage, which, damage, 0]));
+    }
+    for place in [0, 4, 8, 12] {
+        seeds.extend([0, 1].map(|mended| vec![BLOCKS, 0, KNOWN + 4 + mended, 1, 0, place, 2, 9]));
+    }
+    seeds.extend((0..9).map(|count| vec![BLOCKS, 0, ANY + count % 2, count, 0, 0, 0, 8, 1, 0, 0, 0, 1, 0, 0, 0]));
     seeds
 }

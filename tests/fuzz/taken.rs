@@ -49,8 +49,9 @@ impl Log {
         };
         self.on = self.on && (2..=RECORD_COMPLETE).contains(&given.master.state);
         let sequence = &given.master.sequence;
-        if wanted.is_empty() && *sequence != old.sequence {
-            return Some("a sequence stays until a recording that keeps a step is ended");
+        let loads = matches!(event, Event::Load { .. });
+        if wanted.is_empty() && !loads && *sequence != old.sequence {
+            return Some("a sequence stays until a recording that keeps a step is ended, or another one is loaded");
         }
         if !wanted.is_empty() && sequence.steps.get(..sequence.count) != Some(&wanted[..]) {
             return Some("the one-shot and done steps are kept, in order of start, with the value and mark of each");

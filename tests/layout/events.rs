@@ -4,6 +4,7 @@
 use super::Seen;
 use crate::library::{self, CheckView, Client, ClientView, Master, Outcome, Plain, ProgressView, Sent, Slot, SlotView, Step, Taken};
 use crate::library::{NO_CLIENT, NO_PLAYBACK, NO_RECORDING, NO_SENT, NO_SLOT, NO_STEP, NO_TAKEN};
+use crate::master::{blocks, render, stored};
 use crate::pool::generate::{Pool, Random, Shape};
 
 type Rows<'a> = &'a [(&'static str, &'static [&'static str])];
@@ -27,6 +28,7 @@ pub fn all(seen: &mut Seen) {
     }
     counting(seen, &mut random);
     end_of_recording(seen, &mut random);
+    stored_sequence(seen, &mut random);
     verification(seen, &mut random);
 }
 
@@ -334,6 +336,22 @@ fn end_of_recording(seen: &mut Seen, random: &mut Random) {
             *step = if i < count { taken.step } else { NO_STEP };
         }
         event(seen, "stop", &m, &library::stop(&m), &after);
+    }
+}
+
+/// Each field of a sequence is stored at its place in its block, and loaded from there.
+fn stored_sequence(seen: &mut Seen, random: &mut Random) {
+    for (clients, steps) in [(8, 64), (8, 8), (1, 1)] {
+        let sequence = blocks::sequence(random, clients, steps);
+        let wanted = stored::of(&sequence);
+        let m = Master { sequence: render::sequence(&sequence), ..any_in(random, 1) };
+        let mut out = vec![0; wanted.len()];
+        let given = library::value::store(&m, &mut out);
+        event(seen, "store", &m, &given, &m);
+        seen.gives("bytes stored", given.count as usize, wanted.len(), &[("scm_outcome", &["count"])]);
+        seen.gives("blocks", &out, &wanted, &[]);
+        let other = any_in(random, 1);
+        event(seen, "load", &other, &library::load(&other, &wanted), &Master { sequence: m.sequence, ..other });
     }
 }
 

@@ -34,6 +34,10 @@ pub fn tick(m: &mut Master, mm: u32, frames: &mut [u8]) -> u8 {
     unsafe { through_tick(m, mm, frames.as_mut_ptr(), frames.len(), null_mut()) }
 }
 
+pub fn store(m: &Master, blocks: &mut [u8]) -> u8 {
+    unsafe { through_store(m, blocks.as_mut_ptr(), blocks.len(), null_mut()) }
+}
+
 pub fn slot(m: &Master, slot: usize) -> u8 {
     unsafe { through_slot(m, slot, null_mut()) }
 }

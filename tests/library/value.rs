@@ -25,6 +25,8 @@ extern "C" {
     fn value_abort(m: *const Master, o: *mut Outcome);
     fn value_tick(m: *const Master, mm: u32, frames: *mut u8, frames_len: usize, o: *mut Outcome);
     fn value_answer(m: *const Master, slot: usize, msg: *const u8, len: usize, out: *mut u8, out_len: usize, o: *mut Outcome);
+    fn value_store(m: *const Master, blocks: *mut u8, len: usize, o: *mut Outcome);
+    fn value_load(m: *const Master, blocks: *const u8, len: usize, o: *mut Outcome);
     fn value_state(state: u8) -> u8;
     fn value_slot(m: *const Master, slot: usize, r: *mut SlotResult);
     fn value_step_count(sequence: *const Sequence) -> usize;
@@ -118,6 +120,14 @@ pub fn tick(m: &Master, mm: u32, frames: &mut [u8]) -> Outcome {
 
 pub fn answer(m: &Master, slot: usize, message: &[u8], out: &mut [u8]) -> Outcome {
     into(|o| unsafe { value_answer(m, slot, message.as_ptr(), message.len(), out.as_mut_ptr(), out.len(), o) })
+}
+
+pub fn store(m: &Master, blocks: &mut [u8]) -> Outcome {
+    into(|o| unsafe { value_store(m, blocks.as_mut_ptr(), blocks.len(), o) })
+}
+
+pub fn load(m: &Master, blocks: &[u8]) -> Outcome {
+    into(|o| unsafe { value_load(m, blocks.as_ptr(), blocks.len(), o) })
 }
 
 pub fn state(state: u8) -> u8 {

@@ -3,7 +3,8 @@
 
 use super::event::Event;
 use super::facts;
-use super::model::{Master, Outcome};
+use super::model::{Master, Outcome, State};
+use super::stored;
 use std::collections::BTreeMap;
 
 /// Each call and each number that it can give.
@@ -24,6 +25,8 @@ const NUMBERS: &[(&str, &[u8])] = &[
     ("abort", &[0, 2]),
     ("tick", &[0, 1, 2, 4]),
     ("answer", &[0, 1, 2, 3, 4, 15]),
+    ("store", &[0, 1, 2, 7]),
+    ("load", &[0, 2, 16, 17]),
 ];
 
 /// Where one number has several rules, each of them.
@@ -80,6 +83,12 @@ const RULES: &[&str] = &[
     "answer 0: after done",
     "answer 0: after done, an error",
     "answer 0: error answer",
+    "load 16: the first block",
+    "load 16: a block of records",
+    "load 16: a block of steps",
+    "load 16: a block left over",
+    "load 16: several blocks",
+    "load 17: for several reasons",
 ];
 
 /// The error of each E.5 and the rule that gave it.
@@ -164,6 +173,8 @@ const CONTESTS: &[(&str, &[(u8, u8)])] = &[
     ("start", &[(10, 8), (10, 9), (10, 11), (10, 12), (11, 12)]),
     ("tick", &[(1, 4), (1, 2), (4, 2)]),
     ("answer", &[(1, 4), (1, 3), (1, 2), (4, 3), (4, 2), (3, 2)]),
+    ("store", &[(1, 2), (2, 7)]),
+    ("load", &[(2, 16), (2, 17), (16, 17)]),
 ];
 
 /// In each state the numbers that a verification can give. A master is inactive only while every client is disabled. In playback only the reports can
@@ -184,7 +195,10 @@ const CODES: &[u8] = &[0x01, 0x02, 0x03, 0x04, 0x05, 0x06, 0x07, 0x09, 0x0A, 0x0
 const STATES: &[&str] = &["inactive", "ready", "record", "record complete", "playback", "abort"];
 
 /// Every call that writes is lent nothing, one byte too few, as many as it needs, and more.
-const WRITERS: &[&str] = &["enable", "disable", "indication", "tick", "answer"];
+const WRITERS: &[&str] = &["enable", "disable", "indication", "tick", "answer", "store"];
+
+/// What a start of a sequence that was loaded gives.
+const LOADED: &[u8] = &[0, 8, 9, 10, 11, 12];
 
 const FACTS: &[&str] = &[
     "step of trigger 1",
@@ -245,6 +259,43 @@ const FACTS: &[&str] = &[
     "verified, a step that is not the first",
     "verified, several slots do not hold",
     "verified, several steps do not hold",
+    "stored, the largest sequence: 7 blocks",
+    "stored, the least sequence: 3 blocks",
+    "stored, a client of it is not attached",
+    "loaded, the largest sequence: 7 blocks",
+    "loaded, the least sequence: 3 blocks",
+    "loaded, a client of it is not attached",
+    "loaded, records in another order",
+    "loaded where there was no sequence",
+    "loaded over another sequence",
+    "loaded, the sequence that was there",
+    "loaded, stored by this master",
+    "loaded, stored by another master",
+    "loaded, 1 client",
+    "loaded, 3 clients",
+    "loaded, 4 clients",
+    "loaded, 6 clients",
+    "loaded, 7 clients",
+    "loaded, 8 clients",
+    "loaded, 1 step",
+    "loaded, 31 steps",
+    "loaded, 32 steps",
+    "loaded, 62 steps",
+    "loaded, 63 steps",
+    "loaded, 64 steps",
+    "loaded, a version label of 1 byte",
+    "loaded, a version label of 63 bytes",
+    "loaded, a configuration label of 1 byte",
+    "loaded, a configuration label of 63 bytes",
+    "loaded, a configuration label with a byte that no version label has",
+    "loaded, a state of 63",
+    "loaded, a mark of 35,999 ticks",
+    "loaded, a mark of 2,359,194,465 mm",
+    "loaded, marks that no recording gives in this order",
+    "a loaded sequence is played to its end",
+    "a loaded sequence is stored",
+    "a recording replaces a loaded sequence",
+    "cancelled, a loaded sequence is kept",
 ];
 
 pub struct Coverage {
@@ -255,6 +306,8 @@ pub struct Coverage {
     others: Vec<String>,
     /// How often the present sequence was started.
     started: u32,
+    /// Whether it was loaded.
+    loaded: bool,
 }
 
 fn owned(names: &[&str]) -> Vec<String> {
@@ -270,7 +323,9 @@ fn numbers() -> Vec<String> {
 
 fn others() -> Vec<String> {
     let mut names = owned(RULES);
+    names.extend(stored::REASONS.iter().map(|(reason, _)| format!("load 17: {reason}")));
     names.extend(owned(FACTS));
+    names.extend(LOADED.iter().map(|number| format!("start {number} of a loaded sequence")));
     for (call, contests) in CONTESTS {
         names.extend(contests.iter().map(|(first, second)| format!("{call} {first} before {second}")));
     }
@@ -296,10 +351,11 @@ impl Coverage {
             transitions: owned(TRANSITIONS),
             others: others(),
             started: 0,
+            loaded: false,
         }
     }
 
-    fn meet(&mut self, name: &str) {
+    pub fn meet(&mut self, name: &str) {
         match self.met.get_mut(name) {
             Some(times) => *times += 1,
             None => {
@@ -326,6 +382,7 @@ impl Coverage {
             self.meet(&name);
         }
         self.playbacks(event, outcome.is_ok(), before, after);
+        self.loads(event, number, before, after);
         Ok(())
     }
 
@@ -346,6 +403,29 @@ impl Coverage {
                 self.meet("third playback of a sequence");
             }
         }
+    }
+
+    /// What comes of a sequence that was loaded.
+    fn loads(&mut self, event: &Event, number: u8, before: &Master, after: &Master) {
+        match event {
+            Event::Start if self.loaded && before.state == State::Ready => self.meet(&format!("start {number} of a loaded sequence")),
+            Event::Store { .. } if self.loaded && number == 0 => self.meet("a loaded sequence is stored"),
+            Event::Cancel if self.loaded && number == 0 => self.meet("cancelled, a loaded sequence is kept"),
+            Event::Answer { .. } if self.loaded && before.state != after.state && after.state == State::Ready => {
+                self.meet("a loaded sequence is played to its end");
+            }
+            _ => {}
+        }
+        let replaced = before.sequence != after.sequence;
+        match event {
+            Event::Load { .. } => self.loaded |= number == 0,
+            _ if replaced && self.loaded => {
+                self.meet("a recording replaces a loaded sequence");
+                self.loaded = false;
+            }
+            _ => {}
+        }
+        self.loaded &= !after.sequence.steps.is_empty();
     }
 
     /// The readers were compared, on a sequence of so many steps.

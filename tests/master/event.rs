@@ -24,6 +24,8 @@ pub enum Event {
     Abort,
     Tick { millimetres: u32, room: usize },
     Answer { slot: usize, message: Vec<u8>, room: usize },
+    Store { room: usize },
+    Load { blocks: Rc<Vec<u8>> },
 }
 
 /// The call of an event, in one module or another.
@@ -46,6 +48,8 @@ macro_rules! called {
             Event::Abort => $($calls)::+::abort($m),
             Event::Tick { millimetres, .. } => $($calls)::+::tick($m, *millimetres, $out),
             Event::Answer { slot, message, .. } => $($calls)::+::answer($m, *slot, message, $out),
+            Event::Store { .. } => $($calls)::+::store($m, $out),
+            Event::Load { blocks } => $($calls)::+::load($m, blocks),
         }
     };
 }
@@ -69,6 +73,8 @@ impl Event {
             Event::Abort => "abort",
             Event::Tick { .. } => "tick",
             Event::Answer { .. } => "answer",
+            Event::Store { .. } => "store",
+            Event::Load { .. } => "load",
         }
     }
 
@@ -76,7 +82,7 @@ impl Event {
     pub fn room(&self) -> usize {
         match *self {
             Event::Enable { room, .. } | Event::Disable { room, .. } | Event::Tick { room, .. } => room,
-            Event::Indication { room, .. } | Event::Answer { room, .. } => room,
+            Event::Indication { room, .. } | Event::Answer { room, .. } | Event::Store { room } => room,
             _ => 0,
         }
     }
@@ -85,6 +91,7 @@ impl Event {
     pub fn handed(&self) -> &[u8] {
         match self {
             Event::Attach { pool, .. } => pool,
+            Event::Load { blocks } => blocks,
             Event::Indication { message, .. } | Event::ClientAbort { message, .. } | Event::Answer { message, .. } => {
                 message
             }
@@ -129,6 +136,8 @@ impl Event {
             Event::Abort => m.abort(),
             Event::Tick { millimetres, .. } => m.tick(*millimetres, out),
             Event::Answer { slot, message, .. } => m.answer(*slot, message, out),
+            Event::Store { .. } => m.store(out),
+            Event::Load { blocks } => m.load(blocks),
         }
     }
 }
@@ -142,6 +151,7 @@ impl fmt::Display for Event {
         match self {
             Event::Attach { name, pool, .. } => write!(f, " NAME {name:016X}, pool of {} bytes", pool.len())?,
             Event::Report { report, .. } => write!(f, " report {report}")?,
+            Event::Load { blocks } => write!(f, " {} bytes", blocks.len())?,
             Event::Tick { millimetres, .. } => write!(f, " {millimetres} mm")?,
             Event::Indication { message, .. } | Event::ClientAbort { message, .. } | Event::Answer { message, .. } => {
                 write!(f, " message {message:02X?}")?

@@ -5,7 +5,8 @@ use super::kept;
 use super::messages::{self, Status};
 use super::model::{Client, Master, Outcome, Report, State, LAST_TICK, SLOTS};
 use super::playback::{Answered, Playback};
-use super::recording::{Mark, Progress};
+use super::recording::{Mark, Progress, Sequence};
+use super::stored::{self, Laid, MOST_MILLIMETRES, MOST_TICKS};
 use super::verification;
 
 pub fn state(state: &State) -> &'static str {
@@ -78,7 +79,7 @@ fn ticks(master: &Master) -> u32 {
 pub fn others(event: &Event, before: &Master, after: &Master, outcome: &Outcome) -> Vec<String> {
     let mut names = vec![format!("{} in {}", event.name(), state(&before.state))];
     names.extend(rule(event, outcome));
-    names.extend(lent(event));
+    names.extend(lent(event, before));
     match outcome {
         Ok(_) => accepted(event, before, after, &mut names),
         Err(refused) => {
@@ -86,6 +87,9 @@ pub fn others(event: &Event, before: &Master, after: &Master, outcome: &Outcome)
             names.extend(later.map(|number| format!("{} {} before {number}", event.name(), refused.number)));
             if refused.number == 6 {
                 names.push(format!("pool refused with {:02X}", refused.code));
+            }
+            if let (Event::Load { blocks }, 16) = (event, refused.number) {
+                names.push(format!("load 16: {}", wrong_blocks(blocks)));
             }
         }
     }
@@ -106,10 +110,19 @@ fn rule(event: &Event, outcome: &Outcome) -> Option<String> {
     Some(format!("{} {number}: {rule}", event.name()))
 }
 
-fn lent(event: &Event) -> Option<String> {
+/// Whose checks are wrong.
+fn wrong_blocks(blocks: &[u8]) -> &'static str {
+    match stored::wrong_checks(blocks)[..] {
+        [only] => Laid::new(blocks).holds(only),
+        _ => "several blocks",
+    }
+}
+
+fn lent(event: &Event, before: &Master) -> Option<String> {
     let needed = match event {
         Event::Enable { .. } | Event::Disable { .. } | Event::Indication { .. } | Event::Answer { .. } => 8,
         Event::Tick { .. } => 576,
+        Event::Store { .. } => before.stored_bytes(),
         _ => return None,
     };
     let room = match event.room() {
@@ -177,10 +190,24 @@ fn applies(event: &Event, before: &Master) -> Vec<u8> {
             number(empty(*slot), 3);
             number(inactive, 2);
         }
+        Event::Store { room } => return store_applies(before, *room),
+        Event::Load { blocks } => return load_applies(before, blocks),
         Event::Start if ready => return start_applies(before),
         _ => {}
     }
     numbers
+}
+
+fn store_applies(before: &Master, room: usize) -> Vec<u8> {
+    let (short, none) = (room < before.stored_bytes(), before.sequence.steps.is_empty());
+    let numbers = [(short, 1), (before.state != State::Ready, 2), (none, 7)];
+    numbers.into_iter().filter(|(applies, _)| *applies).map(|(_, number)| number).collect()
+}
+
+fn load_applies(before: &Master, blocks: &[u8]) -> Vec<u8> {
+    let (wrong, refused) = (!stored::wrong_checks(blocks).is_empty(), !stored::reasons(blocks).is_empty());
+    let numbers = [(before.state != State::Ready, 2), (wrong, 16), (refused, 17)];
+    numbers.into_iter().filter(|(applies, _)| *applies).map(|(_, number)| number).collect()
 }
 
 fn start_applies(before: &Master) -> Vec<u8> {
@@ -261,6 +288,11 @@ fn accepted(event: &Event, before: &Master, after: &Master, names: &mut Vec<Stri
         }
         Event::Start => started(before, names),
         Event::Answer { slot, message, .. } => answered(before, *slot, message, names),
+        Event::Store { .. } => kept("stored", before, names),
+        Event::Load { blocks } => {
+            kept("loaded", after, names);
+            loaded(before, after, blocks, names);
+        }
         _ => {}
     }
     let none_enabled = after.enabled_clients().next().is_none();
@@ -382,6 +414,63 @@ fn answered(before: &Master, slot: usize, message: &[u8], names: &mut Vec<String
         let it = step.slot == slot && command.tan == message[4];
         if it && command.answered == Answered::Not && playback.ticks - command.left == 15 {
             names.push("first answer after 15 ticks".to_string());
+        }
+    }
+}
+
+/// A sequence that was stored or loaded.
+fn kept(how: &str, master: &Master, names: &mut Vec<String>) {
+    let Sequence { steps, clients } = &master.sequence;
+    match (clients.len(), steps.len()) {
+        (8, 64) => names.push(format!("{how}, the largest sequence: 7 blocks")),
+        (1, 1) => names.push(format!("{how}, the least sequence: 3 blocks")),
+        _ => {}
+    }
+    if clients.keys().any(|&slot| master.client(slot).is_none()) {
+        names.push(format!("{how}, a client of it is not attached"));
+    }
+}
+
+fn loaded(before: &Master, after: &Master, blocks: &[u8], names: &mut Vec<String>) {
+    let slots: Vec<u8> = Laid::new(blocks).records().iter().map(|record| record[0]).collect();
+    let (old, new) = (&before.sequence, &after.sequence);
+    let counted = |count: usize, what: &str| format!("loaded, {count} {what}{}", if count == 1 { "" } else { "s" });
+    names.extend([counted(new.clients.len(), "client"), counted(new.steps.len(), "step")]);
+    let mut name = |met: bool, name: &str| {
+        if met {
+            names.push(name.to_string());
+        }
+    };
+    name(slots.windows(2).any(|pair| pair[0] > pair[1]), "loaded, records in another order");
+    name(old.steps.is_empty(), "loaded where there was no sequence");
+    name(!old.steps.is_empty() && old != new, "loaded over another sequence");
+    name(old == new, "loaded, the sequence that was there");
+    name(new.steps.iter().any(|step| step.state == 63), "loaded, a state of 63");
+    name(new.steps.iter().any(|step| step.mark == Mark::Ticks(MOST_TICKS)), "loaded, a mark of 35,999 ticks");
+    name(new.steps.iter().any(|step| step.mark == Mark::Millimetres(MOST_MILLIMETRES)), "loaded, a mark of 2,359,194,465 mm");
+    name(falls(new), "loaded, marks that no recording gives in this order");
+    labels(new, names);
+}
+
+/// A mark is less than one of its kind before it.
+fn falls(sequence: &Sequence) -> bool {
+    sequence.steps.windows(2).any(|pair| match (pair[0].mark, pair[1].mark) {
+        (Mark::Ticks(one), Mark::Ticks(other)) | (Mark::Millimetres(one), Mark::Millimetres(other)) => one > other,
+        _ => false,
+    })
+}
+
+fn labels(sequence: &Sequence, names: &mut Vec<String>) {
+    for client in sequence.clients.values() {
+        for (kind, label) in [("version", &client.version_label), ("configuration", &client.configuration_label)] {
+            match label.len() {
+                1 => names.push(format!("loaded, a {kind} label of 1 byte")),
+                63 => names.push(format!("loaded, a {kind} label of 63 bytes")),
+                _ => {}
+            }
+        }
+        if client.configuration_label.iter().any(|&byte| stored::forbidden(byte)) {
+            names.push("loaded, a configuration label with a byte that no version label has".to_string());
         }
     }
 }

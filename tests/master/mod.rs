@@ -1,10 +1,12 @@
 //! The library's master against a model that is written from document 01 and the requests of document 02 alone, event by event: what each
 //! call gives, every field of the new state, every lent byte, and the readers.
 
+pub mod blocks;
 mod cases;
 mod coverage;
 pub mod event;
 mod facts;
+mod keeper;
 mod kept;
 mod messages;
 pub mod model;
@@ -12,15 +14,17 @@ mod playback;
 mod player;
 mod promises;
 mod recorder;
-mod recording;
-mod render;
+pub mod recording;
+pub mod render;
 mod run;
 mod samples;
 mod scenario;
 mod screen;
+pub mod stored;
 mod verification;
 mod waits;
 mod wild;
+mod winter;
 
 use crate::library;
 use crate::pool::{generate, model as check};
@@ -50,6 +54,7 @@ pub fn run(arguments: &[&str]) {
 fn all(run: &mut Run, count: u64, print: bool) {
     cases::all(run);
     screen::all(run);
+    winter::all(run);
     scenarios(run, SEED, count);
     if print {
         run.coverage.print();
@@ -61,11 +66,15 @@ fn all(run: &mut Run, count: u64, print: bool) {
     report(run, count);
 }
 
-/// Short ones and long ones, and now and then one that waits for tick 36,000.
+/// Short ones and long ones, and now and then one that waits for tick 36,000. Before some, another master stores a sequence.
 fn scenarios(run: &mut Run, seed: u64, count: u64) {
     let turn = (count / 12).clamp(25, 100);
     for number in 0..count {
         let own = seed.wrapping_add(number);
+        run.shelf.clear();
+        if own % 3 == 0 {
+            Scenario::new(run, !own).lay_by(400);
+        }
         if number % turn == turn - 1 {
             waits::wait(run, own, waits::WAITS[(number / turn) as usize % waits::WAITS.len()]);
             continue;

@@ -1,7 +1,7 @@
 //! A model of the master, written from document 01 and the requests of document 02 alone: its clients, its states, and
 //! what leads from one to another. It is plain on purpose. Their sentences are quoted above the lines that follow them.
 //! What is recorded is in recording.rs, the checks before a start in verification.rs, what is played back in
-//! playback.rs.
+//! playback.rs, what is stored and loaded in stored.rs.
 
 use super::kept::{self, Kept};
 use super::messages;
@@ -62,7 +62,8 @@ pub enum State {
     Abort,
 }
 
-/// An accepted event: the frames that a tick wrote, and by which rule, where several lead to number 0.
+/// An accepted event: the frames that a tick wrote, or the bytes that a store did, and by which rule, where several lead to
+/// number 0.
 #[derive(Clone, Copy, PartialEq, Debug)]
 pub struct Done {
     pub count: u32,

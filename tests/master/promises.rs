@@ -9,6 +9,8 @@ const PLAYBACK: u8 = 4;
 const ABORT: u8 = 5;
 const FRAMES: usize = 576;
 const LAST_TICK: u32 = 36_000;
+const BLOCK: usize = 512;
+const MOST_BLOCKS: usize = 7;
 
 type Broken = Option<String>;
 
@@ -46,6 +48,14 @@ impl Promises {
                 }
             }
             (Event::Answer { slot, message, .. }, Some(watch)) => watch.answer(*slot, message),
+            (Event::Store { .. }, _) => {
+                if let Some(promise) = stores(old, given, before, after) {
+                    return Some(promise);
+                }
+            }
+            (Event::Load { .. }, _) if given.master != (Master { sequence: given.master.sequence, ..*old }) => {
+                return broken("a load changes nothing but the sequence");
+            }
             _ => {}
         }
         if given.master.state != PLAYBACK {
@@ -84,6 +94,29 @@ fn frame_count(given: &Outcome, before: &[u8], after: &[u8]) -> Broken {
     }
     if before[FRAMES..] != after[FRAMES..] {
         return broken("bytes past 576 stay");
+    }
+    None
+}
+
+/// "blocks of 512 bytes, each with its own check": "the wrapping sum of the block's 127 leading 32-bit words and its number
+/// from 1". "Bytes past the blocks stay. The state does not change."
+fn stores(old: &Master, given: &Outcome, before: &[u8], after: &[u8]) -> Broken {
+    let written = given.count as usize;
+    if given.master != *old {
+        return broken("a store changes nothing of the master");
+    }
+    if written == 0 || written % BLOCK != 0 || written > MOST_BLOCKS * BLOCK {
+        return broken("a sequence is one to seven blocks");
+    }
+    if before[written..] != after[written..] {
+        return broken("bytes past the blocks stay");
+    }
+    for (block, number) in after[..written].chunks(BLOCK).zip(1u32..) {
+        let mut words = block.chunks(4).map(|word| u32::from_le_bytes(word.try_into().unwrap()));
+        let sum = words.by_ref().take(127).fold(number, u32::wrapping_add);
+        if words.next() != Some(sum) {
+            return broken("the check of a block is the sum of its words and its number");
+        }
     }
     None
 }

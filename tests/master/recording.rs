@@ -32,7 +32,7 @@ pub struct Identity {
 }
 
 impl Identity {
-    fn of(client: &Client) -> Identity {
+    pub fn of(client: &Client) -> Identity {
         Identity {
             name: client.name,
             master_name: client.pool.master_name,

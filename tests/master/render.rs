@@ -125,7 +125,7 @@ fn clients(identities: &BTreeMap<usize, Identity>) -> [library::Client; SLOTS] {
     cells
 }
 
-fn sequence(sequence: &Sequence) -> library::Sequence {
+pub fn sequence(sequence: &Sequence) -> library::Sequence {
     let mut cells =
         library::Sequence { count: sequence.steps.len(), clients: clients(&sequence.clients), ..library::NO_SEQUENCE };
     for (cell, it) in cells.steps.iter_mut().zip(&sequence.steps) {

@@ -3,14 +3,16 @@
 use super::coverage::Coverage;
 use super::event::Event;
 use super::generate::Random;
+use super::keeper::Kept;
 use super::library;
 use super::model::{Master, Outcome};
 use super::promises::Promises;
 use super::render::{view, Renderer};
 use std::collections::VecDeque;
 
-/// The lent bytes stand at the head of so many, of which no other may change.
-pub const BUFFER: usize = 640;
+/// The lent bytes stand at the head of so many or of so many more than they are, of which no other may change.
+const BUFFER: usize = 640;
+const BEHIND: usize = 64;
 /// So many of the last events are printed with a difference.
 const REMEMBERED: usize = 16;
 /// The readers are compared after one in so many events, the verification after one in so many.
@@ -34,6 +36,8 @@ pub struct Run {
     pub events: u64,
     /// The bytes lent at the last event and those behind them, as the library left them.
     pub lent: Vec<u8>,
+    /// What was stored, by this master and by one before it.
+    pub shelf: Vec<Kept>,
     library: Box<library::Master>,
     wanted: Box<library::Master>,
     renderer: Renderer,
@@ -50,7 +54,8 @@ impl Run {
             model: Master::new(),
             coverage: Coverage::new(),
             events: 0,
-            lent: vec![0; BUFFER],
+            lent: Vec::new(),
+            shelf: Vec::new(),
             library: Box::new(library::NO_MASTER),
             wanted: Box::new(library::NO_MASTER),
             renderer: Renderer::new(),
@@ -76,6 +81,11 @@ impl Run {
         self.compare_verification();
     }
 
+    /// The number that this master's scenario comes from.
+    pub fn seed(&self) -> u64 {
+        self.seed
+    }
+
     /// The library's master.
     pub fn library(&self) -> &library::Master {
         &self.library
@@ -86,7 +96,7 @@ impl Run {
         self.events += 1;
         self.remember(&event);
         let room = event.room();
-        self.fill();
+        self.fill(room);
         let before = self.lent.clone();
         let handed = event.handed().to_vec();
         let mut wanted_bytes = before.clone();
@@ -97,14 +107,16 @@ impl Run {
         self.compare("numbers", given, numbers(&wanted));
         self.compare("bytes to be read", event.handed(), &handed);
         if self.lent != wanted_bytes {
-            let place = (0..BUFFER).find(|&place| self.lent[place] != wanted_bytes[place]).unwrap();
+            let place = (0..before.len()).find(|&place| self.lent[place] != wanted_bytes[place]).unwrap();
             self.compare(&format!("lent byte {place}"), self.lent[place], wanted_bytes[place]);
         }
         if self.random.once_in(BY_VALUE) {
             self.compare_by_value(&event, &outcome, before.clone());
         }
-        if let Event::Start = event {
-            self.compare_start(given.number);
+        match event {
+            Event::Start => self.compare_start(given.number),
+            Event::Store { .. } if given.number == 0 => self.compare_stored(given.count as usize),
+            _ => {}
         }
         let broken = self.promises.check(&event, &self.library, &outcome, &before, &self.lent);
         if let Some(promise) = broken {
@@ -119,7 +131,8 @@ impl Run {
         given
     }
 
-    fn fill(&mut self) {
+    fn fill(&mut self, room: usize) {
+        self.lent.resize(BUFFER.max(room + BEHIND), 0);
         for chunk in self.lent.chunks_mut(8) {
             chunk.copy_from_slice(&self.random.number().to_le_bytes()[..chunk.len()]);
         }
@@ -209,6 +222,17 @@ impl Run {
         let verified = library::verify(&self.library).0;
         let ready = library::state(&self.library) == 1;
         self.compare("start after a verification", number, if ready { verified } else { 2 });
+    }
+
+    /// "Loading gives back exactly what was stored": into this master, and into one that has no sequence.
+    fn compare_stored(&self, bytes: usize) {
+        let blocks = &self.lent[..bytes];
+        let bare = library::Master { sequence: library::NO_SEQUENCE, ..*self.library };
+        for into in [&*self.library, &bare] {
+            let loaded = library::load(into, blocks);
+            self.compare("number of a load of what was stored", loaded.number, 0);
+            self.compare("master after a load of what was stored", loaded.master, *self.library);
+        }
     }
 
     pub fn stop(&self, why: &str) -> ! {

@@ -1,7 +1,8 @@
 //! Scenarios by chance, from a number: the same number gives the same events. What comes next is chosen by the state
 //! that the model is in, so that deep states are reached; now and then anything comes.
 //!
-//! The acts of recording are in recorder.rs, those of playback in player.rs, what comes at any time in wild.rs.
+//! The acts of recording are in recorder.rs, those of playback in player.rs, those of storing and loading in keeper.rs,
+//! what comes at any time in wild.rs.
 
 use super::event::Event;
 use super::generate::Random;
@@ -80,7 +81,7 @@ impl<'a> Scenario<'a> {
         }
     }
 
-    fn act(&mut self) {
+    pub fn act(&mut self) {
         match self.run.model.state {
             State::Inactive => self.wake(),
             State::Ready => self.ready(),
@@ -162,7 +163,7 @@ impl<'a> Scenario<'a> {
         if self.random.once_in(self.habits.changing) {
             return self.come_back();
         }
-        match self.random.below(24) {
+        match self.random.below(27) {
             0 => self.sleep(),
             1 => self.any_tick(),
             2 => self.set_one(),
@@ -179,6 +180,8 @@ impl<'a> Scenario<'a> {
                 }
             }
             6 => self.bystander(),
+            7 => self.store(),
+            8..=9 => self.load(),
             _ => self.begin(),
         }
     }

@@ -9,7 +9,7 @@ use std::rc::Rc;
 
 impl Scenario<'_> {
     pub fn anything(&mut self) {
-        let event = match self.random.below(28) {
+        let event = match self.random.below(32) {
             0 | 24..=27 => self.plain(),
             1..=3 => self.any_attach(),
             4 => Event::Enable { slot: self.any_slot(), room: self.any_room(8) },
@@ -18,6 +18,8 @@ impl Scenario<'_> {
             9 => Event::Lost { slot: self.rare_slot() },
             10..=13 => self.any_indication(),
             14..=15 => self.any_client_abort(),
+            28 => self.any_store(),
+            29..=31 => self.any_load(),
             16..=18 => Event::Tick { millimetres: self.any_millimetres(), room: self.any_room(576) },
             _ => self.any_answer(),
         };

@@ -22,7 +22,7 @@ use Rattle.playback.specs.declared.{Playback.Playback, named.Named.Named}
 use Rattle.master.specs.{declared.Master.Master, declared.Outcome.Outcome, States.newMaster}
 use Rattle.master.specs.declared.readers.{SlotView.SlotView, StepView.StepView, ClientView.ClientView, Progress.Progress, TakenView.TakenView, SentView.SentView}
 use Rattle.master.specs.Readers.{stateOf, slotView, stepView, clientView, verifyView, progressOf, takenView, sentView}
-use Rattle.events.specs.Events.{Event, on, off, «record», stop, cancel, start, abort, attach, enable, disable, report, lost, indication, clientAbort, tick, answer}
+use Rattle.events.specs.Events.{Event, on, off, «record», stop, cancel, start, abort, attach, enable, disable, report, lost, indication, clientAbort, tick, answer, store, load}
 use Rattle.events.specs.Events.{apply, lentAfter}
 use Rattle.scm.specs.Version.{version}
 
@@ -137,6 +137,8 @@ lentGiven (event m (indication slot msg out)) = lentAfter m (indication slot msg
 lentGiven (event m (clientAbort slot msg)) = []
 lentGiven (event m (tick mm out)) = lentAfter m (tick mm out)
 lentGiven (event m (answer slot msg out)) = lentAfter m (answer slot msg out)
+lentGiven (event m (store out)) = lentAfter m (store out)
+lentGiven (event m (load blocks)) = []
 lentGiven (readState state) = []
 lentGiven (readSlot m i) = []
 lentGiven (readStepCount q) = []

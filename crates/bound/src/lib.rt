@@ -1,6 +1,6 @@
 // Each call for C gives back what the definitions say of which the theorems speak: nothing is added here, each function only makes the call.
 ghost use mathlib.Core.List.{[]};
-ghost use Rattle.events.specs.Events.{on, off, «record», stop, cancel, start, abort, attach, enable, disable, report, lost, indication, clientAbort, tick, answer};
+ghost use Rattle.events.specs.Events.{on, off, «record», stop, cancel, start, abort, attach, enable, disable, report, lost, indication, clientAbort, tick, answer, store, load};
 ghost use Rattle.bound.specs.Exported.{Allowed, Determined};
 ghost use Rattle.bound.specs.Exported.{libraryVersion, poolCheck, poolKept, objectAt, writeObject, poolRewrite, readMessage, writeMessage, writeTransfer, show, showBits, made, event};
 ghost use Rattle.bound.specs.Exported.{readState, readStepCount, readSlot, readStep, readClient, readVerify, readProgress, readTaken, readSent};
@@ -191,6 +191,18 @@ pub fn master_answer(master: Master, slot: usize, msg: &[u8], out: &mut [u8]) ->
     ensures { λ r. ⌜ Allowed (event master (answer slot (now (msg .entry)) (now (out .entry)))) (r, now (out .exit)) ⌝ }
 {
     scm::scm_master_answer(master, slot, msg, out)
+}
+
+pub fn master_store(master: Master, blocks: &mut [u8]) -> Outcome
+    ensures { λ r. ⌜ Allowed (event master (store (now (blocks .entry)))) (r, now (blocks .exit)) ⌝ }
+{
+    scm::scm_master_store(master, blocks)
+}
+
+pub fn master_load(master: Master, blocks: &[u8]) -> Outcome
+    ensures { λ r. ⌜ Allowed (event master (load (now (blocks .entry)))) (r, []) ⌝ }
+{
+    scm::scm_master_load(master, blocks)
 }
 
 pub fn master_state(state: u8) -> u8

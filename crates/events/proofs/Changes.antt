@@ -15,6 +15,7 @@ use Rattle.client.specs.Clients as client
 use Rattle.client.specs.Clients.{slotCount, isEnabled, blankSlot}
 use Rattle.client.specs.declared.Client.{Client}
 use Rattle.sequence.specs.Sequence.{lastTick}
+use Rattle.store.specs.Loaded.{loadNumber, loadedOf}
 use Rattle.recording.specs.State.{blankRecording}
 use Rattle.recording.specs.Indication as indications
 use Rattle.recording.specs.declared.Heard.{Heard}
@@ -27,13 +28,13 @@ use Rattle.master.specs.declared.Master.{Master}
 use Rattle.master.specs.Call.{slotAt}
 use Rattle.master.specs.Messages.{isIndication, executionIn}
 use Rattle.master.specs.States as state
-use Rattle.master.specs.States.{isRecording, isPlaying, withState, withSlot, withRecording, withPlayback, ended, settled}
+use Rattle.master.specs.States.{isRecording, isPlaying, withState, withSlot, withSequence, withRecording, withPlayback, ended, settled}
 use Rattle.master.specs.Clients as clients
 use Rattle.master.specs.Clients.{isReport, noReport, reportFrom, isOver, endOf, followed, reported}
 use Rattle.master.specs.Recording.{isCounted, isInterruption, untimely, recordingEnded, stopped, recorded, interrupted, heard}
 use Rattle.master.specs.Playback.{answered, replied}
 use Rattle.master.specs.Tick.{recordingTicked, playbackTicked, ticked}
-use Rattle.events.specs.Events.{Event, «record», stop, start, report, lost, indication, tick, answer, whichCall}
+use Rattle.events.specs.Events.{Event, «record», stop, start, report, lost, indication, tick, answer, load, whichCall}
 use Rattle.events.proofs.Outside.{Outside, clientLost, clientReports, interrupts}
 use Rattle.events.proofs.Choices.{chosen-by, either, is-false}
 
@@ -82,6 +83,8 @@ pub data Change (m : Master) : Event → Master → Type 0 where
   playTicksLast : (mm : ℕ) (out : List ℕ) → isPlaying m ≡ true → Change m (tick mm out) (ended m state.abort)
   playHears : (slot : ℕ) (msg out : List ℕ) → isPlaying m ≡ true → Change m (answer slot msg out) (withPlayback m (m .tan) (answered m slot msg .playback))
   playHearsLast : (slot : ℕ) (msg out : List ℕ) (s : ℕ) → isPlaying m ≡ true → Rests s → s ≤ state.abort → Change m (answer slot msg out) (ended m s)
+  -- the sequence is replaced by the one that blocks say
+  loaded : (blocks : List ℕ) → m .state ≡ state.ready → loadNumber blocks ≡ 0 → Change m (load blocks) (withSequence m (loadedOf blocks .sequence))
 
 -- ---- states
 

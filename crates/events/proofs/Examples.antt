@@ -1,6 +1,9 @@
 -- The examples, closed by computation.
+use Prim.Native.Nat.{ℕ}
 use mathlib.Core.Path.{_≡_, refl}
-use mathlib.Core.List.{map, flatMap}
+use mathlib.Core.Bool.{true, false}
+use mathlib.Core.List.{List, [], map, flatMap}
+use lib.ListN.{replicate}
 use Rattle.octets.specs.Pick.{pick}
 use Rattle.octets.specs.Bits.{hasBit, withBit}
 use Rattle.octets.specs.Octets as octets
@@ -19,6 +22,9 @@ use Rattle.flat.specs.Flat.{readingOf}
 use Rattle.client.specs.Clients.{blankSlot}
 use Rattle.client.specs.Records.{blankRecord, recordOf}
 use Rattle.sequence.specs.Sequence.{blankSequence, stepsOf}
+use Rattle.store.specs.Blocks.{sumAt, checkAt, isDamaged, usedBytes}
+use Rattle.store.specs.Stored.{clientBytes, stepBytes, slotsIn, contentsOf, sealed, storedOf, storeBytes}
+use Rattle.store.specs.Loaded.{clientRight, clientBlank, stepAt, isFaulty, loadNumber}
 use Rattle.recording.specs.State.{blankRecording}
 use Rattle.recording.specs.Indication as indication
 use Rattle.recording.specs.Kept as kept
@@ -33,12 +39,26 @@ use Rattle.master.specs.Clients as clients
 use Rattle.master.specs.Recording as recording
 use Rattle.master.specs.Playback as playback
 use Rattle.master.specs.Tick as ticks
+use Rattle.master.specs.Storing.{unstored, storeCall, loadCall}
 use Rattle.master.specs.declared.Master.{Master}
-use Rattle.events.specs.Events.{Event, on, off, «record», stop, cancel, start, abort, attach, enable, disable, report, lost, indication, clientAbort, tick, answer, callOf}
-use Rattle.events.specs.Examples.{numberAfter, examplesOf}
+use Rattle.events.specs.Events.{Event, on, off, «record», stop, cancel, start, abort, attach, enable, disable, report, lost, indication, clientAbort, tick, answer, store, load, callOf}
+use Rattle.events.specs.Examples.{storedBlocks, numberAfter, examplesOf}
+
+-- the blocks of a sequence that was recorded, of zeros, and none
+judged : (isDamaged storedBlocks ≡ false) × (isFaulty storedBlocks ≡ false)
+unfolding flatMap pick hasBit withBit octets.numberAt octets.bytesOf labelAt more first firstOf headAt fixedOf restAt placesF placesFrom numbersAt codeOf faultsAt nameAt stageOne find isObject objectOf idOf isIn firstRepeat repeatFault absentFault idsFault statesAbsent statesAlike rulesOf stageTwo verdictOf profile.triggerIn profile.statesIn profile.bitsOf profile.tableOf profile.keptAt profile.keptOfPool profile.blankProfile statusFrom packed fromClient fromMaster layoutOf readOf readingOf blankSlot blankRecord recordOf blankSequence stepsOf blankRecording indication.countedRecording indication.hasOpen indication.placeOf indication.againError indication.stepAfter indication.heardAgain indication.errorBy indication.firstError indication.firstValue indication.newStep indication.recordsAfter indication.withNew indication.heardFirst indication.heardOf kept.recordKept kept.keptSequence blankPlayback tick.countedPlayback tick.someLate tick.doesStop tick.doesLeave tick.nextTan tick.afterLeaving tick.tickOf answer.findAnswered answer.answerFrom answer.withAnswer answer.someUndone answer.isAllDone answer.answeredOf verification.firstFailing verification.sameLabel verification.labelsAgree verification.isListed verification.isInPool verification.ofSequence verification.clientChecks verification.stepChecks verification.readyChecks verification.checksBy verification.verifyOf refusal outcomeOf newMaster ended settled endOf followed reportedSlot awake unfit onCall offCall attachCall wantCall reportFrom unexpected reported reportCall clients.lost lostCall recording.unready recording.recordCall recording.recordingEnded recording.stopped recording.stopCall recording.cancelCall recording.untimely recording.recorded recording.interrupted recording.heard recording.indicationCall playback.startCall playback.abortCall playback.unheeded playback.clientAbortCall playback.unmatched playback.replied playback.answerCall ticks.recordingTicked ticks.playbackTicked ticks.ticked ticks.tickCall sumAt checkAt isDamaged usedBytes clientBytes stepBytes slotsIn contentsOf sealed storedOf clientRight clientBlank stepAt isFaulty
+judged = (refl, refl)
+
+unwritten : (isDamaged (replicate 512 0) ≡ true) × (isDamaged [] ≡ false) × (isFaulty [] ≡ true)
+unfolding octets.numberAt sumAt checkAt isDamaged usedBytes clientRight clientBlank stepAt isFaulty
+unwritten = (refl, refl, refl)
+
+loads-reached : (m : Master) (blocks : List ℕ) → map numberAfter (examplesOf (load blocks)) ≡ callOf m (load blocks) .numbers
+unfolding pick refusal outcomeOf newMaster onCall loadNumber loadCall
+loads-reached m blocks = rw (judged .0, judged .1, unwritten .0, unwritten .1, unwritten .2)
 
 pub reached : (m : Master) (e : Event) → map numberAfter (examplesOf e) ≡ callOf m e .numbers
-unfolding flatMap pick hasBit withBit octets.numberAt labelAt more first firstOf headAt fixedOf restAt placesF placesFrom numbersAt codeOf faultsAt nameAt stageOne find isObject objectOf idOf isIn firstRepeat repeatFault absentFault idsFault statesAbsent statesAlike rulesOf stageTwo verdictOf profile.triggerIn profile.statesIn profile.bitsOf profile.tableOf profile.keptAt profile.keptOfPool profile.blankProfile statusFrom packed fromClient fromMaster layoutOf readOf readingOf blankSlot blankRecord recordOf blankSequence stepsOf blankRecording indication.countedRecording indication.hasOpen indication.placeOf indication.againError indication.stepAfter indication.heardAgain indication.errorBy indication.firstError indication.firstValue indication.newStep indication.recordsAfter indication.withNew indication.heardFirst indication.heardOf kept.recordKept kept.keptSequence blankPlayback tick.countedPlayback tick.someLate tick.doesStop tick.doesLeave tick.nextTan tick.afterLeaving tick.tickOf answer.findAnswered answer.answerFrom answer.withAnswer answer.someUndone answer.isAllDone answer.answeredOf verification.firstFailing verification.sameLabel verification.labelsAgree verification.isListed verification.isInPool verification.ofSequence verification.clientChecks verification.stepChecks verification.readyChecks verification.checksBy verification.verifyOf refusal outcomeOf newMaster ended settled endOf followed reportedSlot awake unfit onCall offCall attachCall wantCall reportFrom unexpected reported reportCall clients.lost lostCall recording.unready recording.recordCall recording.recordingEnded recording.stopped recording.stopCall recording.cancelCall recording.untimely recording.recorded recording.interrupted recording.heard recording.indicationCall playback.startCall playback.abortCall playback.unheeded playback.clientAbortCall playback.unmatched playback.replied playback.answerCall ticks.recordingTicked ticks.playbackTicked ticks.ticked ticks.tickCall
+unfolding flatMap pick hasBit withBit octets.numberAt labelAt more first firstOf headAt fixedOf restAt placesF placesFrom numbersAt codeOf faultsAt nameAt stageOne find isObject objectOf idOf isIn firstRepeat repeatFault absentFault idsFault statesAbsent statesAlike rulesOf stageTwo verdictOf profile.triggerIn profile.statesIn profile.bitsOf profile.tableOf profile.keptAt profile.keptOfPool profile.blankProfile statusFrom packed fromClient fromMaster layoutOf readOf readingOf blankSlot blankRecord recordOf blankSequence stepsOf blankRecording indication.countedRecording indication.hasOpen indication.placeOf indication.againError indication.stepAfter indication.heardAgain indication.errorBy indication.firstError indication.firstValue indication.newStep indication.recordsAfter indication.withNew indication.heardFirst indication.heardOf kept.recordKept kept.keptSequence blankPlayback tick.countedPlayback tick.someLate tick.doesStop tick.doesLeave tick.nextTan tick.afterLeaving tick.tickOf answer.findAnswered answer.answerFrom answer.withAnswer answer.someUndone answer.isAllDone answer.answeredOf verification.firstFailing verification.sameLabel verification.labelsAgree verification.isListed verification.isInPool verification.ofSequence verification.clientChecks verification.stepChecks verification.readyChecks verification.checksBy verification.verifyOf refusal outcomeOf newMaster ended settled endOf followed reportedSlot awake unfit onCall offCall attachCall wantCall reportFrom unexpected reported reportCall clients.lost lostCall recording.unready recording.recordCall recording.recordingEnded recording.stopped recording.stopCall recording.cancelCall recording.untimely recording.recorded recording.interrupted recording.heard recording.indicationCall playback.startCall playback.abortCall playback.unheeded playback.clientAbortCall playback.unmatched playback.replied playback.answerCall ticks.recordingTicked ticks.playbackTicked ticks.ticked ticks.tickCall storeBytes slotsIn unstored storeCall
 reached m on = refl
 reached m off = refl
 reached m «record» = refl
@@ -55,3 +75,5 @@ reached m (indication slot msg out) = refl
 reached m (clientAbort slot msg) = refl
 reached m (tick mm out) = refl
 reached m (answer slot msg out) = refl
+reached m (store out) = refl
+reached m (load blocks) = loads-reached m blocks

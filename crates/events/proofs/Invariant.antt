@@ -6,19 +6,20 @@ use mathlib.Core.List.{List, [], _∷_, _++_}
 use Rattle.client.specs.Clients.{slotCount}
 use Rattle.client.specs.declared.Client.{Client}
 use Rattle.sequence.specs.Sequence.{lastTick}
+use Rattle.store.specs.Loaded.{loadNumber, loadedOf}
 use Rattle.recording.specs.State.{blankRecording}
 use Rattle.recording.specs.Indication.{countedRecording}
 use Rattle.playback.specs.State.{goesOn, blankPlayback}
 use Rattle.master.specs.declared.Master.{Master}
 use Rattle.master.specs.Call.{numberOf}
 use Rattle.master.specs.States as states
-use Rattle.master.specs.States.{newMaster, withState, withSlot, withRecording, withPlayback, ended}
+use Rattle.master.specs.States.{newMaster, withState, withSlot, withSequence, withRecording, withPlayback, ended}
 use Rattle.master.specs.Recording.{recordingEnded}
 use Rattle.master.specs.Playback.{answered}
 use Rattle.master.proofs.Calls.{passed}
 use Rattle.events.specs.Events.{Event, callOf, apply, runFrom, Given}
 use Rattle.events.proofs.Calls.{either-way}
-use Rattle.events.proofs.Changes.{Near, itself, slotted, heardIn, tickedIn, Change, rested, moved, dropped, broken, recordStarts, recordWaits, recordEnds, recordHears, recordHearsLast, recordTicks, playStarts, playTicks, playTicksLast, playHears, playHearsLast}
+use Rattle.events.proofs.Changes.{Near, itself, slotted, heardIn, tickedIn, Change, rested, moved, dropped, broken, recordStarts, recordWaits, recordEnds, recordHears, recordHearsLast, recordTicks, playStarts, playTicks, playTicksLast, playHears, playHearsLast, loaded}
 use Rattle.events.proofs.Rows.{row}
 
 -- what a call that is done does to the master
@@ -57,28 +58,32 @@ pub record Invariant (P : Master → Type 0) : Type 0 where
   pub starts : (m : Master) → P m → P (withPlayback m (m .tan) blankPlayback)
   pub ticks : (m : Master) (mm : ℕ) → mm ≤ 65535 → tickedIn m mm .end ≡ goesOn → P m → P (withPlayback m (tickedIn m mm .tan) (tickedIn m mm .playback))
   pub answers : (m : Master) (slot : ℕ) (msg : List ℕ) → P m → P (withPlayback m (m .tan) (answered m slot msg .playback))
+  -- the sequence is replaced by the one that blocks say
+  pub loads :
+      (m : Master) (blocks : List ℕ) → Given m → m .state ≡ states.ready → loadNumber blocks ≡ 0 → P m → P (withSequence m (loadedOf blocks .sequence))
 
 module _ (P : Master → Type 0) (k : Invariant P) where
   near : (m n : Master) → Near m n → P m → P n
   near m n itself h = h
   near m n (slotted i s) h = k .slot m i s h
 
-  changed : (m : Master) (e : Event) (n : Master) → Change m e n → P m → P n
-  changed m e n (rested x y) h = near m n x h
-  changed m e n (moved x s a b) h = k .state _ s (omega arith) (near m _ x h)
-  changed m e n (dropped x i y) h = k .over _ states.ready (omega arith) (near m _ x h)
-  changed m e n (broken x p c) h = k .over _ states.abort (omega arith) (near m _ x h)
-  changed m e n (recordStarts r) h = k .state _ states.recording (omega arith) (k .begins m h)
-  changed m e n (recordWaits i) h = k .state m states.recordComplete (omega arith) h
-  changed m e n (recordEnds i) h = k .stays m h
-  changed m e n (recordHears slot msg out i l) h = k .hears m slot msg l h
-  changed m e n (recordHearsLast slot msg out i l) h = k .stays _ (k .hears m slot msg l h)
-  changed m e n (recordTicks mm out i l t) h = k .counts m mm l t h
-  changed m e n (playStarts r) h = k .state _ states.playback (omega arith) (k .starts m h)
-  changed m e n (playTicks mm out p l t) h = k .ticks m mm l t h
-  changed m e n (playTicksLast mm out p) h = k .over m states.abort (omega arith) h
-  changed m e n (playHears slot msg out p) h = k .answers m slot msg h
-  changed m e n (playHearsLast slot msg out s p r l) h = k .over m s l h
+  changed : (m : Master) (e : Event) (n : Master) → Given m → Change m e n → P m → P n
+  changed m e n g (rested x y) h = near m n x h
+  changed m e n g (moved x s a b) h = k .state _ s (omega arith) (near m _ x h)
+  changed m e n g (dropped x i y) h = k .over _ states.ready (omega arith) (near m _ x h)
+  changed m e n g (broken x p c) h = k .over _ states.abort (omega arith) (near m _ x h)
+  changed m e n g (recordStarts r) h = k .state _ states.recording (omega arith) (k .begins m h)
+  changed m e n g (recordWaits i) h = k .state m states.recordComplete (omega arith) h
+  changed m e n g (recordEnds i) h = k .stays m h
+  changed m e n g (recordHears slot msg out i l) h = k .hears m slot msg l h
+  changed m e n g (recordHearsLast slot msg out i l) h = k .stays _ (k .hears m slot msg l h)
+  changed m e n g (recordTicks mm out i l t) h = k .counts m mm l t h
+  changed m e n g (playStarts r) h = k .state _ states.playback (omega arith) (k .starts m h)
+  changed m e n g (playTicks mm out p l t) h = k .ticks m mm l t h
+  changed m e n g (playTicksLast mm out p) h = k .over m states.abort (omega arith) h
+  changed m e n g (playHears slot msg out p) h = k .answers m slot msg h
+  changed m e n g (playHearsLast slot msg out s p r l) h = k .over m s l h
+  changed m e n g (loaded blocks r z) h = k .loads m blocks g r z h
 
   pub always : P newMaster → (m : Master) → Given m → P m
-  always = given-by P (λ m e _ z h. changed m e _ (done-change m e z) h)
+  always = given-by P (λ m e g z h. changed m e _ g (done-change m e z) h)

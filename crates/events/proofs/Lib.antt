@@ -4,6 +4,8 @@ pub mod Outside
 pub mod Changes
 pub mod Rows
 pub mod Invariant
+pub mod Rest
+pub mod Loads
 pub mod Regular
 pub mod Examples
 pub mod Theorems

@@ -34,11 +34,12 @@ use Rattle.master.specs.Clients.{isOver, endOf, followed, reportFrom, reportedS
 use Rattle.master.specs.Recording.{Hearing, recordingEnded, recordCall, stopCall, cancelCall, interrupted, heard, indicationCall}
 use Rattle.master.specs.Playback.{startCall, abortCall, clientAbortCall, answered, replied, answerCall}
 use Rattle.master.specs.Tick.{playbackTicked, ticked, tickCall}
+use Rattle.master.specs.Storing.{storeCall, loadCall}
 use Rattle.master.specs.Messages.{executionIn}
 use Rattle.master.proofs.Calls.{passed, below}
-use Rattle.events.specs.Events.{Event, on, off, «record», stop, cancel, start, abort, attach, enable, disable, report, lost, indication, clientAbort, tick, answer, callOf, Given, recordAt}
+use Rattle.events.specs.Events.{Event, on, off, «record», stop, cancel, start, abort, attach, enable, disable, report, lost, indication, clientAbort, tick, answer, store, load, callOf, Given, recordAt}
 use Rattle.events.proofs.Choices.{chosen, chosen-by, either}
-use Rattle.events.proofs.Changes.{Near, itself, slotted, Change, rested, moved, dropped, broken, recordStarts, recordWaits, recordEnds, recordHears, recordHearsLast, recordTicks, playStarts, playTicks, playTicksLast, playHears, playHearsLast, not-recording}
+use Rattle.events.proofs.Changes.{Near, itself, slotted, Change, rested, moved, dropped, broken, recordStarts, recordWaits, recordEnds, recordHears, recordHearsLast, recordTicks, playStarts, playTicks, playTicksLast, playHears, playHearsLast, loaded, not-recording}
 use Rattle.events.proofs.Invariant.{done-change, given-by, Invariant, always}
 use Rattle.events.proofs.Calls.{number-is}
 use Rattle.events.proofs.Starts.{start-exactly}
@@ -68,6 +69,7 @@ eight = record {
   starts = λ m h. h;
   ticks = λ m mm l e h. h;
   answers = λ m i msg h. h;
+  loads = λ m blocks g r z h. h;
 }
 
 new-eight : length (newMaster .slots) ≡ 8
@@ -215,7 +217,7 @@ module _ (m : Master) (g : Given m) (p : m .state ≡ 4) where
   barred h = absurd (omega (arith, p, eqb-true (m .state) 1 (not-false _ h)))
 
   stays : (e : Event) → numberOf (callOf m e) ≡ 0 → callOf m e .after .state ≡ 4 → Stays (callOf m e .after)
-  unfolding onCall offCall attachCall wantCall reportCall lostCall recordCall stopCall cancelCall indicationCall startCall abortCall clientAbortCall answerCall tickCall reported clients.lost ended
+  unfolding onCall offCall attachCall wantCall reportCall lostCall recordCall stopCall cancelCall indicationCall startCall abortCall clientAbortCall answerCall tickCall storeCall loadCall reported clients.lost ended
   stays on z w = absurd (omega arith)
   stays off z w = absurd (omega arith)
   stays «record» z w = absurd (omega arith)
@@ -233,6 +235,8 @@ module _ (m : Master) (g : Given m) (p : m .state ≡ 4) where
   stays (clientAbort slot msg) z w = absurd (omega arith)
   stays (tick mm out) z w = ticked-same mm
   stays (answer slot msg out) z w = replied-same slot msg
+  stays (store out) z w = same _ refl refl
+  stays (load blocks) z w = barred (passed _ _ _ _ _ z .allowed)
 
 -- ---- every call
 
@@ -259,6 +263,7 @@ begins m e n (playTicks mm out p l t) g z h w = absurd (h w)
 begins m e n (playTicksLast mm out p) g z h w = absurd (omega arith)
 begins m e n (playHears slot msg out p) g z h w = absurd (h w)
 begins m e n (playHearsLast slot msg out s p r l) g z h w = absurd (r .2 w)
+begins m e n (loaded blocks r x) g z h w = absurd (h w)
 
 keeps : (m : Master) (e : Event) → Given m → numberOf (callOf m e) ≡ 0 → AllPlayable m → AllPlayable (callOf m e .after)
 unfolding Stays

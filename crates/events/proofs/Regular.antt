@@ -41,6 +41,8 @@ use Rattle.events.specs.Events.{Given}
 use Rattle.events.specs.Demand1.{Counted, NeverCut, NeverBites}
 use Rattle.events.proofs.Choices.{chosen, chosen-by}
 use Rattle.events.proofs.Invariant.{Invariant, always}
+use Rattle.events.proofs.Rest.{given-blank}
+use Rattle.events.proofs.Loads.{sound-loaded}
 
 pub record RegularRecording (r : Recording) : Type 0 where
   pub sound : Sound r
@@ -209,6 +211,9 @@ stay-regular = record {
   answers = λ m i msg h.
       played-in m (m .tan) _ h (answered-regular (m .playback) (m .sequence) i (replyIn msg) (h .playback))
       (rw (answered-sent (m .playback) (m .sequence) i (replyIn msg)) (h .sent)) (h .tan);
+  loads = λ m blocks g r z h.
+      let none : m .playback ≡ blankPlayback = given-blank m g .playback (λ p. omega (arith, r, p)) in
+      record { recording = h .recording; sequence = sound-loaded blocks z; playback = h .playback; sent = rw none (none-sent _); state = h .state; tan = h .tan };
 }
 
 new-regular : Regular newMaster

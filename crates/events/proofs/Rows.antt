@@ -9,7 +9,7 @@ use lib.Dec.{eqb, leb, ltb}
 use lib.ListN.{length}
 use borrow.Author.Tests.{eqb-true, ltb-false, not-false}
 use Rattle.octets.specs.Pick.{pick}
-use Rattle.octets.specs.Numbers.{tooShort, wrongState, wrongSlot, wrongValue, noStep, notReady, noMatch}
+use Rattle.octets.specs.Numbers.{tooShort, wrongState, wrongSlot, wrongValue, noStep, notReady, noMatch, notStored}
 use Rattle.octets.proofs.Tests.{pick-both}
 use Rattle.client.specs.Clients.{isEnabled}
 use Rattle.recording.proofs.Steps.{both}
@@ -17,6 +17,7 @@ use Rattle.playback.specs.Answer.{answeredOf}
 use Rattle.playback.specs.Verification.{verifyOf}
 use Rattle.playback.specs.declared.Answered.{Answered}
 use Rattle.playback.proofs.Verifies.{verifies}
+use Rattle.store.specs.Loaded.{loadNumber}
 use Rattle.master.specs.declared.Master.{Master}
 use Rattle.master.specs.Call.{Call, refusal, numberOf, slotAt}
 use Rattle.master.specs.States as state
@@ -25,18 +26,19 @@ use Rattle.master.specs.Clients.{awake, unfit, unexpected, onCall, offCall, att
 use Rattle.master.specs.Recording.{unready, untimely, recordCall, stopCall, cancelCall, indicationCall}
 use Rattle.master.specs.Playback.{answered, unheeded, unmatched, startCall, abortCall, clientAbortCall, answerCall}
 use Rattle.master.specs.Tick.{tickCall}
+use Rattle.master.specs.Storing.{unstored, storeCall, loadCall}
 use Rattle.master.proofs.Calls.{Passed, below}
-use Rattle.events.specs.Events.{Event, on, off, «record», stop, cancel, start, abort, attach, enable, disable, report, lost, indication, clientAbort, tick, answer, callOf}
+use Rattle.events.specs.Events.{Event, on, off, «record», stop, cancel, start, abort, attach, enable, disable, report, lost, indication, clientAbort, tick, answer, store, load, callOf}
 use Rattle.events.specs.Demand1.{isAmong}
 use Rattle.events.proofs.Outside.{operator, clientAborts}
 use Rattle.events.proofs.Choices.{chosen, chosen-by}
-use Rattle.events.proofs.Changes.{Rests, low, passes, Change, itself, moved, dropped, broken, recordStarts, playStarts, slot-change, stopped-change, lost-change, reported-change, heard-change, ticked-change, replied-change}
+use Rattle.events.proofs.Changes.{Rests, low, passes, Change, itself, rested, moved, dropped, broken, recordStarts, playStarts, loaded, slot-change, stopped-change, lost-change, reported-change, heard-change, ticked-change, replied-change}
 
 -- ---- numbers
 
--- one of those that its record names, and of 01's table
+-- one of those that its record names, and of the table
 abbrev pub Named : Master → Event → ℕ → Type 0
-Named m e n = (isAmong n (callOf m e .numbers) && leb n noMatch) ≡ true
+Named m e n = (isAmong n (callOf m e .numbers) && leb n notStored) ≡ true
 
 never : {X : Type 0} → false ≡ true → X
 never e = absurd (true≢false (sym e))
@@ -115,7 +117,7 @@ is m e inactive short wrong absent barred own change =
     }
 
 pub row : (m : Master) (e : Event) → Row m e
-unfolding onCall offCall attachCall wantCall reportCall lostCall recordCall stopCall cancelCall indicationCall startCall abortCall clientAbortCall answerCall tickCall awake unfit unready unexpected untimely unheeded unmatched
+unfolding onCall offCall attachCall wantCall reportCall lostCall recordCall stopCall cancelCall indicationCall startCall abortCall clientAbortCall answerCall tickCall storeCall loadCall loadNumber unstored awake unfit unready unexpected untimely unheeded unmatched
 row m on =
     is m on (λ s h. absurd (h refl)) never never never refl refl
     (λ p. moved itself state.ready (resting m state.inactive (omega arith) (p .allowed)) (omega arith))
@@ -154,3 +156,8 @@ row m (tick mm out) = is m (tick mm out) (λ s h. rw s) (λ _. refl) (λ _. refl
 row m (answer slot msg out) =
     is m (answer slot msg out) (λ s h. rw s) (λ _. refl) (λ _. refl) (λ _. refl) refl (pick-both (Named m (answer slot msg out)) _ (answered-in m slot msg out) refl)
     (λ p. replied-change m slot msg out (plays m _ (p .goes)))
+row m (store out) =
+    is m (store out) (λ s h. rw s) (λ _. refl) never never refl (pick-both (Named m (store out)) _ refl refl) (λ p. rested itself (λ _ z. omega arith))
+row m (load blocks) =
+    is m (load blocks) (λ s h. rw s) never never never refl (pick-both (Named m (load blocks)) _ refl (pick-both (Named m (load blocks)) _ refl refl))
+    (λ p. loaded blocks (eqb-true _ _ (not-false _ (p .allowed))) (p .goes))

@@ -3,7 +3,7 @@ use Prim.Native.Nat.{ℕ}
 use mathlib.Core.Path.{_≡_, refl, sym, _∙_}
 use mathlib.Core.Bool.{true, true≢false}
 use borrow.Author.Tests.{leb-true}
-use Rattle.octets.specs.Numbers.{wrongState, noMatch}
+use Rattle.octets.specs.Numbers.{wrongState, notStored}
 use Rattle.octets.proofs.Tests.{pick-both}
 use Rattle.recording.proofs.Steps.{both}
 use Rattle.master.specs.declared.Master.{Master}
@@ -33,7 +33,7 @@ pub in-table : InTable
 in-table = record {
   call = λ m e. both _ _ (in-row m e) .0;
   reached = reached;
-  table = λ m e. leb-true (apply m e .number) noMatch (both (isAmong (apply m e .number) (callOf m e .numbers)) _ (in-row m e) .1);
+  table = λ m e. leb-true (apply m e .number) notStored (both (isAmong (apply m e .number) (callOf m e .numbers)) _ (in-row m e) .1);
 }
 
 -- ---- while the master is inactive

@@ -5,7 +5,7 @@ use mathlib.Core.Bool.{Bool, true}
 use mathlib.Core.List.{List, [], _∷_, map}
 use lib.Dec.{eqb}
 use lib.ListN.{length, getD}
-use Rattle.octets.specs.Numbers.{completed, tooShort, wrongState, wrongSlot, wrongValue, noMatch}
+use Rattle.octets.specs.Numbers.{completed, tooShort, wrongState, wrongSlot, wrongValue, notStored}
 use Rattle.arrays.specs.{Arrays.some, Arrays.more, Every.Every}
 use Rattle.client.specs.Clients.{slotCount, blankSlot}
 use Rattle.sequence.specs.Sequence.{mostSteps, lastTick, blankStep, lengthOf, stepsOf}
@@ -33,8 +33,8 @@ pub record InTable : Type 0 where
   pub call : (m : Master) (e : Event) → isAmong (apply m e .number) (callOf m e .numbers) ≡ true
   -- and each of them, in some example
   pub reached : (m : Master) (e : Event) → map numberAfter (examplesOf e) ≡ callOf m e .numbers
-  -- all are numbers of 01's table
-  pub table : (m : Master) (e : Event) → apply m e .number ≤ noMatch
+  -- all are numbers of 01's table, or 16 or 17 of 02
+  pub table : (m : Master) (e : Event) → apply m e .number ≤ notStored
 
 -- ---- "in an active state every tick with at least 576 bytes lent and its millimetres in range is accepted, and in playback every answer that matches a
 -- sent step"

@@ -9,9 +9,10 @@ use Rattle.master.specs.Call.{Call, outcomeOf, leavesOf}
 use Rattle.master.specs.Clients.{onCall, offCall, attachCall, wantCall, reportCall, lostCall}
 use Rattle.master.specs.Recording.{recordCall, stopCall, cancelCall, indicationCall}
 use Rattle.master.specs.Playback.{startCall, abortCall, clientAbortCall, answerCall}
+use Rattle.master.specs.Storing.{storeCall, loadCall}
 
 -- a call and its inputs. attach: slot, NAME, pool; enable, disable: slot, lent bytes; report: slot, number; lost: slot; indication (E.4) and answer
--- (E.7): slot, message, lent bytes; clientAbort (E.3): slot, message; tick: millimetres, lent bytes
+-- (E.7): slot, message, lent bytes; clientAbort (E.3): slot, message; tick: millimetres, lent bytes; store: lent bytes; load: blocks
 pub data Event : Type 0 where
   on off «record» stop cancel start abort : Event
   attach : ℕ → ℕ → List ℕ → Event
@@ -22,6 +23,7 @@ pub data Event : Type 0 where
   clientAbort : ℕ → List ℕ → Event
   tick : ℕ → List ℕ → Event
   answer : ℕ → List ℕ → List ℕ → Event
+  store load : List ℕ → Event
 
 -- the call, as its contract has it
 abbrev pub callOf : Master → Event → Call
@@ -41,13 +43,16 @@ callOf m (indication slot msg out) = indicationCall m slot msg out
 callOf m (clientAbort slot msg) = clientAbortCall m slot msg
 callOf m (tick mm out) = tickCall m mm out
 callOf m (answer slot msg out) = answerCall m slot msg out
+callOf m (store out) = storeCall m out
+callOf m (load blocks) = loadCall m blocks
 
--- which call it is: one that a recording or a playback takes something from, or any other, with a number of its own
+-- which call it is: one that a recording or a playback takes something from, a load, or any other, with a number of its own
 pub data Sort : Event → Type 0 where
   stops : Sort stop
   hears : (slot : ℕ) (msg out : List ℕ) → Sort (indication slot msg out)
   ticks : (mm : ℕ) (out : List ℕ) → Sort (tick mm out)
   answers : (slot : ℕ) (msg out : List ℕ) → Sort (answer slot msg out)
+  loads : (blocks : List ℕ) → Sort (load blocks)
   other : {e : Event} → ℕ → Sort e
 
 abbrev pub sortOf : (e : Event) → Sort e
@@ -67,6 +72,8 @@ sortOf (indication slot msg out) = hears slot msg out
 sortOf (clientAbort slot msg) = other 11
 sortOf (tick mm out) = ticks mm out
 sortOf (answer slot msg out) = answers slot msg out
+sortOf (store out) = other 12
+sortOf (load blocks) = loads blocks
 
 -- the call's number, whatever its inputs
 abbrev pub numberBy : {e : Event} → Sort e → ℕ
@@ -74,7 +81,8 @@ numberBy stops = 0
 numberBy (hears slot msg out) = 1
 numberBy (ticks mm out) = 2
 numberBy (answers slot msg out) = 3
-numberBy (other n) = 4 + n
+numberBy (loads blocks) = 4
+numberBy (other n) = 5 + n
 
 abbrev pub whichCall : Event → ℕ
 whichCall e = numberBy (sortOf e)

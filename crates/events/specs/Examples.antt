@@ -5,7 +5,8 @@ use mathlib.Core.Path.{_≡_, refl}
 use mathlib.Core.List.{List, [], _∷_, _++_}
 use lib.ListN.{replicate}
 use Rattle.pool.specs.Cases as pools
-use Rattle.events.specs.Events.{Event, on, off, «record», stop, cancel, start, abort, attach, enable, disable, report, lost, indication, clientAbort, tick, answer, whichCall, apply, run}
+use Rattle.store.specs.Stored.{storedOf}
+use Rattle.events.specs.Events.{Event, on, off, «record», stop, cancel, start, abort, attach, enable, disable, report, lost, indication, clientAbort, tick, answer, store, load, whichCall, apply, run}
 
 -- ---- a pool whose version label has n bytes: function 5 with state 2
 
@@ -42,6 +43,10 @@ eightBytes = replicate 8 0
 abbrev pub frameBuffer : List ℕ
 frameBuffer = replicate 576 0
 
+-- as many as a sequence of one client and one step has
+abbrev pub threeBlocks : List ℕ
+threeBlocks = replicate 1536 0
+
 -- ---- calls, one after the other
 
 -- a client of this NAME and pool is attached in slot 0, and the master off again
@@ -64,6 +69,10 @@ recordingRun = readyRun ++ «record» ∷ report 0 2 ∷ []
 -- one step is recorded
 abbrev pub recordedRun : List Event
 recordedRun = recordingRun ++ indication 0 indicationMessage eightBytes ∷ stop ∷ report 0 1 ∷ []
+
+-- the blocks of this sequence
+abbrev pub storedBlocks : List ℕ
+storedBlocks = storedOf (run recordedRun .sequence)
 
 abbrev pub playingRun : List Event
 playingRun = recordedRun ++ start ∷ []
@@ -131,3 +140,8 @@ examplesOf (answer slot msg out) =
     byCalls sentRun (answer 0 answerMessage eightBytes) refl ∷ byCalls [] (answer 0 answerMessage []) refl
     ∷ byCalls [] (answer 0 indicationMessage eightBytes) refl ∷ byCalls [] (answer 0 answerMessage eightBytes) refl
     ∷ byCalls inactiveRun (answer 0 answerMessage eightBytes) refl ∷ byCalls attachedRun (answer 0 answerMessage eightBytes) refl ∷ []
+examplesOf (store out) =
+    byCalls recordedRun (store threeBlocks) refl ∷ byCalls recordedRun (store []) refl ∷ byCalls [] (store []) refl ∷ byCalls (on ∷ []) (store []) refl ∷ []
+examplesOf (load blocks) =
+    byCalls (on ∷ []) (load storedBlocks) refl ∷ byCalls [] (load []) refl ∷ byCalls (on ∷ []) (load (replicate 512 0)) refl
+    ∷ byCalls (on ∷ []) (load []) refl ∷ []

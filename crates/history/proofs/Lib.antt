@@ -9,6 +9,9 @@ pub mod Told
 pub mod Kept
 pub mod Answers
 pub mod Next
+pub mod Loads
 pub mod Runs
 pub mod Responses
 pub mod Opens
+pub mod Storable
+pub mod Blocks

@@ -1,5 +1,5 @@
 -- What each change of the master does to the recording, its log and the sequence: most leave them, or end the recording; a tick counts, an E.4 is heard,
--- and where a recording ends and is kept, its steps are those of the log.
+-- where a recording ends and is kept, its steps are those of the log, and a load replaces the sequence.
 use Prim.Native.Nat.{ℕ, _≤_}
 use mathlib.Core.Path.{_≡_, refl, sym, ap, subst, _∙_}
 use mathlib.Core.Bool.{true, false, _&&_, _||_, true≢false}
@@ -17,6 +17,7 @@ use Rattle.profile.specs.declared.Profile.{Profile}
 use Rattle.client.specs.Clients.{isTaken}
 use Rattle.client.specs.Records.{recordOf}
 use Rattle.sequence.specs.Sequence.{stepsOf}
+use Rattle.store.specs.Loaded.{loadedOf}
 use Rattle.recording.specs.State.{blankRecording}
 use Rattle.recording.specs.Indication.{heldOf}
 use Rattle.recording.specs.Kept.{stays, keptSequence}
@@ -31,10 +32,10 @@ use Rattle.master.specs.States as state
 use Rattle.master.specs.States.{isRecording, isPlaying, withState, withSequence, withRecording, withPlayback, ended}
 use Rattle.master.specs.Recording.{recordingEnded, indicationCall}
 use Rattle.master.proofs.Calls.{passed, below}
-use Rattle.events.specs.Events.{Event, indication, Sort, stops, hears, ticks, answers, other, sortOf, numberBy, callOf, apply, run}
+use Rattle.events.specs.Events.{Event, indication, load, Sort, stops, hears, ticks, answers, loads, other, sortOf, numberBy, callOf, apply, run}
 use Rattle.events.proofs.Calls.{number-is, either-way}
 use Rattle.events.proofs.Choices.{either}
-use Rattle.events.proofs.Changes.{Rests, low, heardIn, Change, rested, moved, dropped, broken, recordStarts, recordWaits, recordEnds, recordHears, recordHearsLast, recordTicks, playStarts, playTicks, playTicksLast, playHears, playHearsLast, not-recording}
+use Rattle.events.proofs.Changes.{Rests, low, heardIn, Change, rested, moved, dropped, broken, recordStarts, recordWaits, recordEnds, recordHears, recordHearsLast, recordTicks, playStarts, playTicks, playTicksLast, playHears, playHearsLast, loaded, not-recording}
 use Rattle.events.proofs.Invariant.{done-change}
 use Rattle.events.proofs.Regular.{given-regular}
 use Rattle.history.specs.Runs.{isDone}
@@ -61,11 +62,12 @@ pub record Good (m : Master) (log : List Entry) : Type 0 where
 abbrev Ends : Master → Event → Master → Type 0
 Ends m e n = (isRecording m ≡ true) × (doesKeep e ≡ true) × (n .state ≡ state.ready)
 
--- the sequence is the old one; or a recording ends and is kept, and its steps are those of the log: the old ones, or each is traced
+-- the sequence is the old one; or a recording ends and is kept, and its steps are those of the log: the old ones, or each is traced; or a load brings it
 pub data SequenceAfter (m : Master) (e : Event) (log : List Entry) (n : Master) : Type 0 where
   stillSame : n .sequence ≡ m .sequence → (Ends m e n → ⊥) → SequenceAfter m e log n
   nowKept : Ends m e n → n .sequence ≡ keptFrom log (m .sequence)
       → (n .sequence ≡ m .sequence) ⊎ Every (Traced log) (stepsOf (n .sequence)) → SequenceAfter m e log n
+  nowLoaded : (blocks : List ℕ) → e ≡ load blocks → apply m e .number ≡ 0 → n .sequence ≡ loadedOf blocks .sequence → SequenceAfter m e log n
 
 -- the log where the recording goes on
 abbrev now : Master → List Entry → List Entry
@@ -85,6 +87,7 @@ module _ (before : List Event) (log : List Entry) where
       (either (isRecording (run before)) (λ t. absurd (h t refl)) (λ t. left-false (isRecording (run before)) _ t))
   silent-by e (ticks mm out) h = refl
   silent-by e (answers slot msg out) h = refl
+  silent-by e (loads blocks) h = refl
   silent-by e (other k) h = refl
 
   -- a refused call brings no entry
@@ -94,6 +97,7 @@ module _ (before : List Event) (log : List Entry) where
       pick-false (isRecording (run before) && isDone before (indication slot msg out)) _ [] (right-false (isRecording (run before)) _ (ne-eqb _ _ h))
   refused-by e (ticks mm out) h = refl
   refused-by e (answers slot msg out) h = refl
+  refused-by e (loads blocks) h = refl
   refused-by e (other k) h = refl
 
 keeps-none : (e : Event) (s : Sort e) → 2 ≤ numberBy s → doesKeepBy e s ≡ true → ⊥
@@ -101,23 +105,26 @@ keeps-none e stops l k = omega arith
 keeps-none e (hears slot msg out) l k = omega arith
 keeps-none e (ticks mm out) l k = true≢false (sym k)
 keeps-none e (answers slot msg out) l k = true≢false (sym k)
+keeps-none e (loads blocks) l k = true≢false (sym k)
 keeps-none e (other n) l k = true≢false (sym k)
 
 -- ---- one master to the next
 
 module _ (m : Master) (log : List Entry) (g : Good m log) (e : Event) where
+  -- the recording is as it was, and the log
+  same-good : (new : List Entry) (n : Master) → n .recording ≡ m .recording → isRecording n ≡ isRecording m → new ≡ [] → Good n (now n (log ++ new))
+  same-good new n a b none =
+      subst (λ (l : List Entry). Good n (now n (log ++ l))) (sym none)
+      (subst (Good n) (sym same-log) (record { told = subst (λ (r : Recording). Told r log) (sym a) (g .told); idle = λ t. g .idle (sym b ∙ t) }))
+    where
+      same-log : now n (log ++ []) ≡ log
+      same-log = either (isRecording m) (λ t. pick-true _ _ _ (b ∙ t) ∙ append-nil log) (λ t. pick-false _ _ _ (b ∙ t) ∙ sym (g .idle t))
+
   -- all that counts is as it was
   quiet :
       (new : List Entry) (n : Master) → n .recording ≡ m .recording → isRecording n ≡ isRecording m → n .sequence ≡ m .sequence → new ≡ [] → (Ends m e n → ⊥)
       → Next m e log new n
-  quiet new n a b c none f =
-      subst (λ (l : List Entry). Next m e log l n) (sym none) (record {
-        good = subst (Good n) (sym same-log) (record { told = subst (λ (r : Recording). Told r log) (sym a) (g .told); idle = λ t. g .idle (sym b ∙ t) });
-        sequence = stillSame c f;
-      })
-    where
-      same-log : now n (log ++ []) ≡ log
-      same-log = either (isRecording m) (λ t. pick-true _ _ _ (b ∙ t) ∙ append-nil log) (λ t. pick-false _ _ _ (b ∙ t) ∙ sym (g .idle t))
+  quiet new n a b c none f = record { good = same-good new n a b none; sequence = stillSame c f }
 
   -- nothing of a recording or a playback is left
   blank : (k : Master) (s : ℕ) → (eqb s 2 || eqb s 3) ≡ false → (l : List Entry) → Good (ended k s) (now (ended k s) l)
@@ -255,6 +262,7 @@ module _ (before : List Event) (log : List Entry) (g : Good (run before) log) wh
   changed e n w (playTicksLast mm out p) = over here log g e _ here state.abort refl refl (λ z. in-play p (z .0))
   changed e n w (playHears slot msg out p) = quiet here log g e [] n refl refl refl refl (λ z. in-play p (z .0))
   changed e n w (playHearsLast slot msg out t p r l) = over here log g e _ here t refl (is-not t r) (λ z. in-play p (z .0))
+  changed e n w (loaded blocks r z) = record { good = same-good here log g e [] n refl refl refl; sequence = nowLoaded blocks refl w refl }
 
   pub apply-next : (e : Event) → Next here e log (brings e) (apply here e .master)
   apply-next e =

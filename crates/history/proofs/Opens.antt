@@ -16,10 +16,10 @@ use Rattle.master.specs.States as state
 use Rattle.master.specs.States.{newMaster, isRecording, isPlaying, withRecording, ended}
 use Rattle.master.specs.Recording.{recordingEnded, stopped, recorded, interrupted, heard, Hearing, stopCall, indicationCall}
 use Rattle.master.proofs.Reading.{heard-recording}
-use Rattle.events.specs.Events.{Event, stop, indication, Sort, stops, hears, ticks, answers, other, sortOf, numberBy, whichCall, callOf, apply, run}
+use Rattle.events.specs.Events.{Event, stop, indication, Sort, stops, hears, ticks, answers, loads, other, sortOf, numberBy, whichCall, callOf, apply, run}
 use Rattle.events.proofs.Calls.{number-is, after-is, either-way}
 use Rattle.events.proofs.Choices.{chosen, chosen-by}
-use Rattle.events.proofs.Changes.{heardIn, Change, rested, moved, dropped, broken, recordStarts, recordWaits, recordEnds, recordHears, recordHearsLast, recordTicks, playStarts, playTicks, playTicksLast, playHears, playHearsLast, not-playing}
+use Rattle.events.proofs.Changes.{heardIn, Change, rested, moved, dropped, broken, recordStarts, recordWaits, recordEnds, recordHears, recordHearsLast, recordTicks, playStarts, playTicks, playTicksLast, playHears, playHearsLast, loaded, not-playing}
 use Rattle.events.proofs.Invariant.{done-change}
 use Rattle.history.specs.Runs.{Succeeds}
 use Rattle.history.specs.Steps.{isAnyOpen}
@@ -126,6 +126,7 @@ module _ (k : Master) (w : Waits k) where
   waits-still x n (playTicksLast mm out p) a b z = over k state.abort (λ q. omega arith) z
   waits-still x n (playHears slot msg out p) a b z = in-play p z
   waits-still x n (playHearsLast slot msg out s p r l) a b z = over k s (r .1) z
+  waits-still x n (loaded blocks r q) a b z = w z
 
   waits-stopped : Waits (stopped k)
   unfolding Waits stopped
@@ -149,6 +150,7 @@ module _ (k : Master) (w : Waits k) where
   waits-by x (hears slot msg out) q c = waits-heard slot msg
   waits-by x (ticks mm out) q c = waits-still x _ c (λ y. omega arith) (λ y. omega arith)
   waits-by x (answers slot msg out) q c = waits-still x _ c (λ y. omega arith) (λ y. omega arith)
+  waits-by x (loads blocks) q c = waits-still x _ c (λ y. omega arith) (λ y. omega arith)
   waits-by x (other j) q c =
       waits-still x _ c (λ y. omega (arith, sym y ∙ ap (numberBy {e = x}) q)) (λ y. omega (arith, sym y ∙ ap (numberBy {e = x}) q))
 

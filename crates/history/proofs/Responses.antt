@@ -58,7 +58,7 @@ from-client s =
     entry-holds FewStates (byte 1 s) (clientRows s) Nothing
     (none, (none, (none, (none, (none, (none, (none, (none, (read, (read, (none, (none, tt)))))))))))) none
 
-few-states : (s : List ℕ) → leb (executionIn s .state) 63 ≡ true
+pub few-states : (s : List ℕ) → leb (executionIn s .state) 63 ≡ true
 unfolding FewStates readOf readingOf
 few-states s = chosen (λ (r : Reading). leb (flatOf (r .message) (r .label) .step .state) 63 ≡ true) _ _ _ (from-client s _) refl
 

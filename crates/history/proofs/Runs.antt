@@ -1,4 +1,5 @@
--- Over every run: the log is of its calls, and the steps and the sequence are those of the log.
+-- Over every run: the log is of its calls, and the steps and the sequence are those of the log, or of a load.
+use Prim.Native.Nat.{ℕ}
 use mathlib.Core.Path.{_≡_, refl, sym, ap, subst, _∙_}
 use mathlib.Core.Bool.{Bool, true, false, _&&_, true≢false}
 use mathlib.Core.Logic.{_⊎_, inl, inr}
@@ -11,21 +12,26 @@ use Rattle.sequence.specs.Sequence.{stepsOf, blankSequence}
 use Rattle.recording.proofs.Steps.{both}
 use Rattle.sequence.specs.declared.Sequence as sequence
 use Rattle.sequence.specs.declared.Step.{Step}
+use Rattle.store.specs.Loaded.{loadedOf}
 use Rattle.message.specs.declared.Status.the-variants.{AtOnce, Started}
 use Rattle.recording.specs.Indication.{status}
 use Rattle.master.specs.declared.Master.{Master}
 use Rattle.master.specs.States as state
 use Rattle.master.specs.States.{newMaster, isRecording}
-use Rattle.events.specs.Events.{Event, indication, Sort, stops, hears, ticks, answers, other, sortOf, apply, run}
+use Rattle.master.specs.Storing.{loadCall}
+use Rattle.events.specs.Events.{Event, indication, load, Sort, stops, hears, ticks, answers, loads, other, sortOf, callOf, apply, run}
+use Rattle.events.proofs.Calls.{after-is}
 use Rattle.events.proofs.Choices.{chosen-by}
+use Rattle.history.specs.Runs.{Succeeds}
 use Rattle.history.specs.Log.{entriesBy, logAfter, logOf, entriesIn, logWith}
 use Rattle.history.specs.Steps.{Entry, isAccepted, isFinish, FirstOf, keptFrom}
-use Rattle.history.specs.Promises.{Traced, KeptBy, Happened, Recorded, doesKeep}
+use Rattle.history.specs.Promises.{Traced, KeptBy, LoadedBy, Origin, Happened, Recorded, HasOrigin, doesKeep}
 use Rattle.history.proofs.Gather.{run-more, gather-more, along}
 use Rattle.history.proofs.Lists.{all-true, every-chosen, every-append}
 use Rattle.history.proofs.Held.{done-is}
 use Rattle.history.proofs.Told.{told-blank}
-use Rattle.history.proofs.Next.{Good, SequenceAfter, stillSame, nowKept, Next, apply-next}
+use Rattle.history.proofs.Next.{Good, SequenceAfter, stillSame, nowKept, nowLoaded, Next, apply-next}
+use Rattle.history.proofs.Loads.{loaded-steps}
 
 log-more : (events : List Event) (e : Event) → logOf (events ++ e ∷ []) ≡ logAfter events e (logOf events)
 log-more events e = gather-more logAfter [] events e
@@ -54,6 +60,7 @@ happened-by before e (hears slot msg out) =
     (λ _. tt)
 happened-by before e (ticks mm out) = tt
 happened-by before e (answers slot msg out) = tt
+happened-by before e (loads blocks) = tt
 happened-by before e (other n) = tt
 
 pub happened-last : (before : List Event) (e : Event) → Every (Happened (before ++ e ∷ [])) (entriesIn before e)
@@ -86,7 +93,7 @@ happened =
 
 pub record Traces (events : List Event) : Type 0 where
   pub good : Good (run events) (logOf events)
-  pub kept : (stepsOf (run events .sequence) ≡ []) ⊎ KeptBy events
+  pub kept : Origin events
 
 none-yet : Traces []
 unfolding newMaster blankSequence stepsOf
@@ -115,18 +122,33 @@ module _ (events : List Event) (e : Event) where
     steps = subst (λ (q : sequence.Sequence). Every (Traced (logWith (k .before) (k .last))) (stepsOf q)) (sym c) (k .steps);
   }
 
-  still : (stepsOf (run events .sequence) ≡ []) ⊎ KeptBy events → apply (run events) e .master .sequence ≡ run events .sequence
-      → (stepsOf (run all .sequence) ≡ []) ⊎ KeptBy all
-  still (inl z) c = inl (ap (λ (m : Master). stepsOf (m .sequence)) more ∙ ap stepsOf c ∙ z)
-  still (inr k) c = inr (kept-still (ap (λ (m : Master). m .sequence) more ∙ c) k)
+  loaded-still : run all .sequence ≡ run events .sequence → LoadedBy events → LoadedBy all
+  loaded-still c k = record {
+    before = k .before;
+    blocks = k .blocks;
+    after = k .after ++ e ∷ [];
+    all = ap (λ (l : List Event). l ++ e ∷ []) (k .all) ∙ append-assoc (k .before) (load (k .blocks) ∷ k .after) (e ∷ []);
+    accepted = k .accepted;
+    sequence = c ∙ k .sequence;
+  }
 
-  kept-more :
-      (stepsOf (run events .sequence) ≡ []) ⊎ KeptBy events
-      → SequenceAfter (run events) e (logWith events e) (apply (run events) e .master)
-      → (stepsOf (run all .sequence) ≡ []) ⊎ KeptBy all
+  still : Origin events → apply (run events) e .master .sequence ≡ run events .sequence → Origin all
+  still (inl z) c = inl (ap (λ (m : Master). stepsOf (m .sequence)) more ∙ ap stepsOf c ∙ z)
+  still (inr (inl k)) c = inr (inl (kept-still (ap (λ (m : Master). m .sequence) more ∙ c) k))
+  still (inr (inr k)) c = inr (inr (loaded-still (ap (λ (m : Master). m .sequence) more ∙ c) k))
+
+  kept-more : Origin events → SequenceAfter (run events) e (logWith events e) (apply (run events) e .master) → Origin all
   kept-more k (stillSame c f) = still k c
+  kept-more k (nowLoaded blocks q d c) = inr (inr (record {
+    before = events;
+    blocks = blocks;
+    after = [];
+    all = ap (λ (x : Event). events ++ x ∷ []) q;
+    accepted = subst (Succeeds events) q d;
+    sequence = ap (λ (m : Master). m .sequence) more ∙ c;
+  }))
   kept-more k (nowKept z x (inl c)) = still k c
-  kept-more k (nowKept (i, y, r) x (inr t)) = inr (record {
+  kept-more k (nowKept (i, y, r) x (inr t)) = inr (inl (record {
     before = events;
     last = e;
     after = [];
@@ -136,7 +158,7 @@ module _ (events : List Event) (e : Event) where
     ended = ap (λ (m : Master). m .state) more ∙ r;
     sequence = refl;
     steps = subst (λ (m : Master). Every (Traced (logWith events e)) (stepsOf (m .sequence))) (sym more) t;
-  })
+  }))
 
   next : Traces events → Next (run events) e (logOf events) (entriesIn events e) (apply (run events) e .master)
   next h = apply-next events (logOf events) (h .good) e
@@ -151,6 +173,10 @@ module _ (events : List Event) (e : Event) where
 
 pub traces : (events : List Event) → Traces events
 traces = along Traces none-yet one-more
+
+-- what a call makes of the sequence
+pub sequence-after : (events : List Event) (e : Event) → SequenceAfter (run events) e (logWith events e) (apply (run events) e .master)
+sequence-after events e = next events e (traces events) .sequence
 
 -- ---- each step has its calls
 
@@ -208,24 +234,25 @@ module _ (events : List Event) (log : List Entry) (h : Every (Happened events) l
             value = t .value;
           }
 
-pub recorded : (events : List Event) → Every (Recorded events) (stepsOf (run events .sequence))
+pub kept-steps : (events : List Event) → KeptBy events → Every (Recorded events) (stepsOf (run events .sequence))
+kept-steps events k =
+    let log = logWith (k .before) (k .last) in
+    let whole : k .before ++ k .last ∷ k .after ≡ events = sym (k .all) in
+    let there : Every (Happened (k .before ++ k .last ∷ k .after)) log =
+    every-append _ (logOf (k .before)) (entriesIn (k .before) (k .last))
+    (every-weaken (happened-in (k .before) (k .last ∷ k .after)) (logOf (k .before)) (happened (k .before)))
+    (every-weaken (λ x h.
+    subst (λ (l : List Event). Happened l x) (append-assoc (k .before) (k .last ∷ []) (k .after)) (happened-in (k .before ++ k .last ∷ []) (k .after) x h))
+    (entriesIn (k .before) (k .last)) (happened-last (k .before) (k .last))) in
+    every-weaken (recorded-in events log (subst (λ (l : List Event). Every (Happened l) log) whole there)) (stepsOf (run events .sequence)) (k .steps)
+
+pub recorded : (events : List Event) → Every (HasOrigin events) (stepsOf (run events .sequence))
 recorded events = go (traces events .kept)
   where
-    by : KeptBy events → Every (Recorded events) (stepsOf (run events .sequence))
-    by k =
-        let log = logWith (k .before) (k .last) in
-        let whole : k .before ++ k .last ∷ k .after ≡ events = sym (k .all) in
-        let there : Every (Happened (k .before ++ k .last ∷ k .after)) log =
-        every-append _ (logOf (k .before)) (entriesIn (k .before) (k .last))
-        (every-weaken (happened-in (k .before) (k .last ∷ k .after)) (logOf (k .before)) (happened (k .before)))
-        (every-weaken (λ x h.
-        subst (λ (l : List Event). Happened l x) (append-assoc (k .before) (k .last ∷ []) (k .after)) (happened-in (k .before ++ k .last ∷ []) (k .after) x h))
-        (entriesIn (k .before) (k .last)) (happened-last (k .before) (k .last))) in
-        every-weaken (recorded-in events log (subst (λ (l : List Event). Every (Happened l) log) whole there)) (stepsOf (run events .sequence)) (k .steps)
-
-    go : (stepsOf (run events .sequence) ≡ []) ⊎ KeptBy events → Every (Recorded events) (stepsOf (run events .sequence))
+    go : Origin events → Every (HasOrigin events) (stepsOf (run events .sequence))
     go (inl z) = rw z tt
-    go (inr k) = by k
+    go (inr (inl k)) = every-weaken (λ s r. inl r) (stepsOf (run events .sequence)) (kept-steps events k)
+    go (inr (inr k)) = every-weaken (λ s r. inr r) (stepsOf (run events .sequence)) (loaded-steps events k)
 
 -- ---- all that is kept
 
@@ -233,20 +260,27 @@ pub exact :
     (before : List Event) (last : Event) → isRecording (run before) ≡ true → doesKeep last ≡ true → run (before ++ last ∷ []) .state ≡ state.ready
     → run (before ++ last ∷ []) .sequence ≡ keptFrom (logWith before last) (run before .sequence)
 exact before last i k z =
-    ap (λ (m : Master). m .sequence) (more before last) ∙ go (next before last (traces before) .sequence)
+    ap (λ (m : Master). m .sequence) (more before last) ∙ go (sequence-after before last)
   where
     go :
         SequenceAfter (run before) last (logWith before last) (apply (run before) last .master)
         → apply (run before) last .master .sequence ≡ keptFrom (logWith before last) (run before .sequence)
     go (stillSame c f) = absurd (f (i, k, ap (λ (m : Master). m .state) (sym (more before last)) ∙ z))
     go (nowKept y x t) = x
+    go (nowLoaded blocks q d c) = absurd (true≢false (sym k ∙ ap doesKeep q))
+
+pub loaded : (before : List Event) (blocks : List ℕ) → Succeeds before (load blocks) → run (before ++ load blocks ∷ []) .sequence ≡ loadedOf blocks .sequence
+unfolding loadCall
+loaded before blocks d =
+    ap (λ (m : Master). m .sequence) (more before (load blocks) ∙ after-is (run before) (callOf (run before) (load blocks)) d)
 
 pub others :
     (before : List Event) (last : Event)
     → (isRecording (run before) && doesKeep last && eqb (run (before ++ last ∷ []) .state) state.ready) ≡ false
+    → ((blocks : List ℕ) → last ≡ load blocks → Succeeds before last → ⊥)
     → run (before ++ last ∷ []) .sequence ≡ run before .sequence
-others before last n =
-    ap (λ (m : Master). m .sequence) (more before last) ∙ go (next before last (traces before) .sequence)
+others before last n l =
+    ap (λ (m : Master). m .sequence) (more before last) ∙ go (sequence-after before last)
   where
     go :
         SequenceAfter (run before) last (logWith before last) (apply (run before) last .master)
@@ -255,3 +289,4 @@ others before last n =
     go (nowKept (i, y, r) x t) =
         let z = eq-eqb _ 1 (ap (λ (m : Master). m .state) (more before last) ∙ r) in
         absurd (true≢false (sym (all-true _ _ (all-true _ _ i y) z) ∙ n))
+    go (nowLoaded blocks q d c) = absurd (l blocks q d)

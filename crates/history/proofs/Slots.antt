@@ -3,6 +3,7 @@ use Prim.Native.Nat.{ℕ, _<_}
 use mathlib.Core.Path.{_≡_, refl, sym, ap, subst, _∙_}
 use mathlib.Core.Bool.{Bool, true, false, not, _&&_, true≢false}
 use mathlib.Core.List.{List, [], _∷_, _++_}
+use native.Mathlib.Omega.{arith}
 use lib.Dec.{eqb, leb, ltb}
 use lib.ListN.{length, getD, set, replicate, length-set, List·getD-eq-default, getD-replicate}
 use lib.Seq.{getD-set-same, getD-set-other}
@@ -10,6 +11,8 @@ use borrow.Author.Tests.{eq-eqb, ne-eqb, eqb-true, eqb-false, ltb-true, ltb-fals
 use Rattle.octets.specs.Pick.{pick}
 use Rattle.octets.proofs.Tests.{pick-true, pick-false}
 use Rattle.arrays.proofs.Every.{neither}
+use Rattle.octets.specs.Numbers.{poolRefused}
+use Rattle.pool.specs.Pool.{verdictOf}
 use Rattle.profile.specs.Profile.{keptOfPool}
 use Rattle.client.specs.Clients.{isTaken, isWanted, isEnabled, blankSlot, noSlot, attached, withWanted, withReport}
 use Rattle.client.specs.declared.Client.{Client}
@@ -18,12 +21,13 @@ use Rattle.master.specs.Call.{numberOf, slotAt}
 use Rattle.master.specs.Messages.{executionIn}
 use Rattle.master.specs.States.{newMaster, withSlot, ended, settled}
 use Rattle.master.specs.Clients as clients
-use Rattle.master.specs.Clients.{followed, reportedSlot, isReport, noReport, reportFrom, reported, onCall, offCall, attachCall, wantCall, reportCall, lostCall}
+use Rattle.master.specs.Clients.{unfit, followed, reportedSlot, isReport, noReport, reportFrom, reported, onCall, offCall, attachCall, wantCall, reportCall, lostCall}
 use Rattle.master.specs.Recording.{recordingEnded, stopped, recorded, interrupted, heard, Hearing, recordCall, stopCall, cancelCall, indicationCall}
 use Rattle.master.specs.Playback.{replied, startCall, abortCall, clientAbortCall, answerCall}
 use Rattle.master.specs.Tick.{recordingTicked, playbackTicked, ticked, tickCall}
+use Rattle.master.specs.Storing.{storeCall, loadCall}
 use Rattle.master.proofs.Calls.{passed, below}
-use Rattle.events.specs.Events.{Event, on, off, «record», stop, cancel, start, abort, attach, enable, disable, report, lost, indication, clientAbort, tick, answer, callOf, apply, run}
+use Rattle.events.specs.Events.{Event, on, off, «record», stop, cancel, start, abort, attach, enable, disable, report, lost, indication, clientAbort, tick, answer, store, load, callOf, apply, run}
 use Rattle.events.proofs.Calls.{number-is, either-way}
 use Rattle.events.proofs.Choices.{chosen, chosen-by, either}
 use Rattle.history.specs.Runs.{isDone}
@@ -38,6 +42,8 @@ pub record Holds (c : Seat) (s : Client) : Type 0 where
   pub report : s .report ≡ c .report
   pub name : isTaken s ≡ true → s .name ≡ c .name
   pub pool : isTaken s ≡ true → s .profile ≡ keptOfPool (c .pool)
+  -- a pool that was accepted
+  pub accepted : isTaken s ≡ true → verdictOf (c .pool) .code ≡ 0
 
 -- each of the eight slots
 record All (c : ℕ → Seat) (m : Master) : Type 0 where
@@ -46,15 +52,20 @@ record All (c : ℕ → Seat) (m : Master) : Type 0 where
 
 empty : Holds emptySeat blankSlot
 unfolding blankSlot
-empty = record { taken = refl; wanted = refl; report = refl; name = λ _. refl; pool = λ t. absurd (true≢false (sym t)) }
+empty = record { taken = refl; wanted = refl; report = refl; name = λ _. refl; pool = λ t. absurd (true≢false (sym t)); accepted = λ t. absurd (true≢false (sym t)) }
 
 none : Holds emptySeat noSlot
-none = record { taken = refl; wanted = refl; report = refl; name = λ _. refl; pool = λ t. absurd (true≢false (sym t)) }
+none = record { taken = refl; wanted = refl; report = refl; name = λ _. refl; pool = λ t. absurd (true≢false (sym t)); accepted = λ t. absurd (true≢false (sym t)) }
 
 chosen-both : (b : Bool) (x y : Seat) (s t : Client) → Holds x s → Holds y t → Holds (pick b x y) (pick b s t)
 unfolding pick
 chosen-both true x y s t p q = p
 chosen-both false x y s t p q = q
+
+-- a pool that is not refused has no fault
+fit : (code : ℕ) → unfit code ≡ 0 → code ≡ 0
+unfolding unfit
+fit code = chosen-by (λ (n : ℕ). n ≡ 0 → code ≡ 0) (eqb code 0) 0 poolRefused (λ t _. eqb-true code 0 t) (λ _ z. absurd (omega (arith, z)))
 
 -- ---- one slot replaced
 
@@ -76,7 +87,7 @@ module _ (c : ℕ → Seat) (m : Master) (h : All c m) where
   wants : (i wanted : ℕ) → Holds (wantedSeat (not (eqb wanted 0)) (c i)) (withWanted (slotAt m i) wanted)
   wants i wanted =
       let k = h .each i in
-      record { taken = k .taken; wanted = refl; report = k .report; name = k .name; pool = k .pool }
+      record { taken = k .taken; wanted = refl; report = k .report; name = k .name; pool = k .pool; accepted = k .accepted }
 
   -- a report that is taken is one of the five
   report-is : (number : ℕ) → eqb (reportFrom number) noReport ≡ false → reportFrom number ≡ number
@@ -91,7 +102,7 @@ module _ (c : ℕ → Seat) (m : Master) (h : All c m) where
       let q : (isEnabled (slotAt m i) && eqb number 0) ≡ (c i .wanted && not (eqb (c i .report) 0) && eqb number 0) = rw (t, k .wanted, k .report) in
       subst (λ (b : Bool). Holds (reportedSeat number (c i)) (pick b blankSlot (withReport (slotAt m i) number))) (sym q)
       (chosen-both _ _ _ blankSlot (withReport (slotAt m i) number) empty
-      (record { taken = k .taken; wanted = k .wanted; report = refl; name = k .name; pool = k .pool }))
+      (record { taken = k .taken; wanted = k .wanted; report = refl; name = k .name; pool = k .pool; accepted = k .accepted }))
 
 -- ---- a master whose slots are the same
 
@@ -138,7 +149,7 @@ module _ (c : ℕ → Seat) (m : Master) (h : All c m) where
   stops = chosen (All c) _ _ _ (same c m h _ refl) (kept-over c m h)
 
   all-after : (e : Event) → numberOf (callOf m e) ≡ 0 → All (λ slot. seatBy slot (c slot) e) (callOf m e .after)
-  unfolding onCall offCall attachCall wantCall reportCall lostCall recordCall stopCall cancelCall indicationCall startCall abortCall clientAbortCall answerCall tickCall replied reported clients.lost
+  unfolding onCall offCall attachCall wantCall reportCall lostCall recordCall stopCall cancelCall indicationCall startCall abortCall clientAbortCall answerCall tickCall storeCall loadCall replied reported clients.lost
   all-after on z = same c m h _ refl
   all-after off z = same c m h _ refl
   all-after «record» z = same c m h _ refl
@@ -148,7 +159,7 @@ module _ (c : ℕ → Seat) (m : Master) (h : All c m) where
   all-after abort z = over c m h _
   all-after (attach i name pool) z =
       put c m h (λ _. filledSeat name pool) i (attached name (keptOfPool pool)) (below i _ (passed _ _ _ _ _ z .here))
-      (record { taken = refl; wanted = refl; report = refl; name = λ _. refl; pool = λ _. refl })
+      (record { taken = refl; wanted = refl; report = refl; name = λ _. refl; pool = λ _. refl; accepted = λ _. fit (verdictOf pool .code) (passed _ _ _ _ _ z .goes) })
   all-after (enable i out) z = put c m h (wantedSeat true) i _ (below i _ (passed _ _ _ _ _ z .here)) (wants c m h i 1)
   all-after (disable i out) z = put c m h (wantedSeat false) i _ (below i _ (passed _ _ _ _ _ z .here)) (wants c m h i 0)
   all-after (report i number) z =
@@ -163,6 +174,8 @@ module _ (c : ℕ → Seat) (m : Master) (h : All c m) where
   all-after (clientAbort i msg) z = over c m h _
   all-after (tick mm out) z = counts mm
   all-after (answer i msg out) z = chosen (All c) _ _ _ (over c m h _) (chosen (All c) _ _ _ (over c m h _) (same c m h _ refl))
+  all-after (store out) z = h
+  all-after (load blocks) z = same c m h _ refl
 
 -- ---- over every run
 
@@ -221,4 +234,5 @@ attaching = record {
   report = λ events slot. holds events slot .report;
   name = λ events slot t. holds events slot .name t;
   pool = λ events slot t. holds events slot .pool t;
+  accepted = λ events slot t. holds events slot .accepted t;
 }

@@ -21,10 +21,10 @@ use Rattle.master.specs.States.{newMaster, isRecording, isPlaying, withRecordin
 use Rattle.master.specs.Recording.{recordCall, recordingEnded}
 use Rattle.master.specs.Tick.{recordingTicked, playbackTicked, ticked, tickCall}
 use Rattle.master.proofs.Calls.{passed}
-use Rattle.events.specs.Events.{Event, on, off, «record», stop, cancel, start, abort, attach, enable, disable, report, lost, indication, clientAbort, tick, answer, Sort, stops, hears, ticks, answers, other, sortOf, numberBy, whichCall, callOf, apply, run}
+use Rattle.events.specs.Events.{Event, on, off, «record», stop, cancel, start, abort, attach, enable, disable, report, lost, indication, clientAbort, tick, answer, store, load, Sort, stops, hears, ticks, answers, loads, other, sortOf, numberBy, whichCall, callOf, apply, run}
 use Rattle.events.proofs.Calls.{number-is, after-is, either-way}
 use Rattle.events.proofs.Choices.{chosen, chosen-by, either}
-use Rattle.events.proofs.Changes.{low, Change, rested, moved, dropped, broken, recordStarts, recordWaits, recordEnds, recordHears, recordHearsLast, recordTicks, playStarts, playTicks, playTicksLast, playHears, playHearsLast, not-recording}
+use Rattle.events.proofs.Changes.{low, Change, rested, moved, dropped, broken, recordStarts, recordWaits, recordEnds, recordHears, recordHearsLast, recordTicks, playStarts, playTicks, playTicksLast, playHears, playHearsLast, loaded, not-recording}
 use Rattle.events.proofs.Invariant.{done-change}
 use Rattle.events.proofs.Regular.{never-cut}
 use Rattle.history.specs.Runs.{Succeeds, isDone}
@@ -61,7 +61,7 @@ module _ (m : Master) where
   in-play p i = absurd (true≢false (sym i ∙ not-recording m p))
 
   uncounted :
-      (e : Event) (n : Master) → Change m e n → isRecording n ≡ true → (whichCall e ≡ 2 → ⊥) → (whichCall e ≡ 6 → ⊥) → Uncounted m n
+      (e : Event) (n : Master) → Change m e n → isRecording n ≡ true → (whichCall e ≡ 2 → ⊥) → (whichCall e ≡ whichCall «record» → ⊥) → Uncounted m n
   unfolding Uncounts
   uncounted e n (rested x y) i a b =
       let l = alike m n x in
@@ -85,6 +85,7 @@ module _ (m : Master) where
   uncounted e n (playTicksLast mm out p) i a b = over m state.abort refl i
   uncounted e n (playHears slot msg out p) i a b = in-play p i
   uncounted e n (playHearsLast slot msg out s p r l) i a b = over m s (is-not s r) i
+  uncounted e n (loaded blocks r z) i a b = record { recording = i; same-ticks = refl; same-distance = refl }
 
 -- ---- a tick
 
@@ -147,6 +148,8 @@ is-record (indication slot msg out) z = absurd (true≢false (sym z))
 is-record (clientAbort slot msg) z = absurd (true≢false (sym z))
 is-record (tick mm out) z = absurd (true≢false (sym z))
 is-record (answer slot msg out) z = absurd (true≢false (sym z))
+is-record (store out) z = absurd (true≢false (sym z))
+is-record (load blocks) z = absurd (true≢false (sym z))
 
 -- what is counted is these ticks
 Counted : Master → List ℕ → Type 0
@@ -156,7 +159,7 @@ module _ (events : List Event) (l : List ℕ) (h : Counted (run events) l) where
   abbrev before : Master
   before = run events
 
-  none-more : (e : Event) (n : Master) → Change before e n → (whichCall e ≡ 2 → ⊥) → (whichCall e ≡ 6 → ⊥) → Counted n l
+  none-more : (e : Event) (n : Master) → Change before e n → (whichCall e ≡ 2 → ⊥) → (whichCall e ≡ whichCall «record» → ⊥) → Counted n l
   unfolding Counted
   none-more e n c a b i =
       let u = uncounted before e n c i a b in
@@ -187,10 +190,11 @@ module _ (events : List Event) (l : List ℕ) (h : Counted (run events) l) where
   by-sort e (hears slot msg out) q z c = none-more e _ c (λ y. omega arith) (λ y. omega arith)
   by-sort e (ticks mm out) q z c = one-more mm out z
   by-sort e (answers slot msg out) q z c = none-more e _ c (λ y. omega arith) (λ y. omega arith)
+  by-sort e (loads blocks) q z c = none-more e _ c (λ y. omega arith) (λ y. omega arith)
   by-sort e (other k) q z c =
       chosen-by (Counted (callOf before e .after)) (isRecord e) [] l
       (λ t. subst (λ (x : Event). Counted (callOf before x .after) []) (sym (is-record e t)) starts-anew)
-      (λ t. none-more e _ c (λ y. omega (arith, sym y ∙ ap (numberBy {e = e}) q)) (λ y. absurd (true≢false (sym (eq-eqb _ 6 y) ∙ t))))
+      (λ t. none-more e _ c (λ y. omega (arith, sym y ∙ ap (numberBy {e = e}) q)) (λ y. absurd (true≢false (sym (eq-eqb _ (whichCall «record») y) ∙ t))))
 
   counted-more : (e : Event) → Counted (apply before e .master) (ticksAfter events e l)
   counted-more e =

@@ -4,4 +4,5 @@ pub mod Seats
 pub mod Steps
 pub mod Answers
 pub mod Log
+pub mod Stored
 pub mod Promises

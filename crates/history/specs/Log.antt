@@ -9,7 +9,7 @@ use Rattle.octets.specs.Pick.{pick}
 use Rattle.profile.specs.Profile as profile
 use Rattle.master.specs.{declared.Master.Master, Messages.executionIn, States.isRecording}
 use Rattle.master.specs.States as state
-use Rattle.events.specs.Events.{Event, indication, Sort, stops, hears, ticks, answers, other, sortOf, apply, run}
+use Rattle.events.specs.Events.{Event, indication, Sort, stops, hears, ticks, answers, loads, other, sortOf, apply, run}
 use Rattle.history.specs.Runs.{gather, isDone}
 use Rattle.history.specs.Ticks.{ticksSince, sum}
 use Rattle.history.specs.Seats.{poolIn, clientIn}
@@ -38,6 +38,7 @@ entriesBy before log e (hears slot msg out) =
     pick (isRecording (run before) && isDone before (indication slot msg out)) (entryOf before log slot msg ∷ []) []
 entriesBy before log e (ticks mm out) = []
 entriesBy before log e (answers slot msg out) = []
+entriesBy before log e (loads blocks) = []
 entriesBy before log e (other n) = []
 
 -- the log after a call: none where no recording is on

@@ -1,4 +1,4 @@
--- Recording over every run of calls, from the master as it is made: calls in, numbers, bytes, states and the sequence out.
+-- Recording and loading over every run of calls, from the master as it is made: calls in, numbers, bytes, states and the sequence out.
 use Prim.Native.Nat.{ℕ, _<_}
 use mathlib.Core.Path.{_≡_}
 use mathlib.Core.Bool.{Bool, true, false, not, _&&_}
@@ -7,22 +7,26 @@ use mathlib.Core.List.{List, [], _∷_, _++_}
 use lib.Dec.{eqb}
 use lib.ListN.{length, getD}
 use Rattle.octets.specs.Pick.{pick}
+use Rattle.pool.specs.Pool.{verdictOf}
 use Rattle.arrays.specs.Every.{Every}
 use Rattle.client.specs.Clients.{isTaken, isWanted}
 use Rattle.message.specs.declared.Status.the-variants.{AtOnce, Started, Done}
 use Rattle.sequence.specs.{Sequence.stepsOf, declared.Step.Step}
 use Rattle.recording.specs.Indication.{hasOpen}
 use Rattle.sequence.specs.Sound.{SoundSequence}
+use Rattle.store.specs.Blocks.{stepPlace}
+use Rattle.store.specs.Loaded.{clientCount, stepCount, stepAt, loadedOf}
 use Rattle.recording.specs.Promises.{Sound}
 use Rattle.playback.specs.Promises.{Tidy}
 use Rattle.master.specs.{declared.Master.Master, Call.slotAt, Messages.executionIn, States.isRecording}
 use Rattle.master.specs.States as state
-use Rattle.events.specs.Events.{Event, stop, indication, tick, Sort, stops, hears, ticks, answers, other, sortOf, lentAfter, run, Given}
+use Rattle.events.specs.Events.{Event, stop, indication, tick, load, Sort, stops, hears, ticks, answers, loads, other, sortOf, lentAfter, run, Given}
 use Rattle.history.specs.Runs.{Succeeds}
 use Rattle.history.specs.Ticks.{ticksSince, sum}
 use Rattle.history.specs.Seats.{seatOf, poolIn}
 use Rattle.history.specs.Steps.{Entry, isAccepted, isFinish, FirstOf, Begins, isAnyOpen, keptFrom}
 use Rattle.history.specs.Answers.{errorFrom}
+use Rattle.history.specs.Stored.{Stored}
 use Rattle.history.specs.Log.{isComplete, entryOf, logOf, entriesIn, logWith}
 
 -- ---- ticks
@@ -53,6 +57,8 @@ pub record Attaching : Type 0 where
   -- where it is taken, the NAME of the last attach, and what is kept of its pool
   pub name : (events : List Event) (slot : ℕ) → isTaken (slotAt (run events) slot) ≡ true → slotAt (run events) slot .name ≡ seatOf events slot .name
   pub pool : (events : List Event) (slot : ℕ) → isTaken (slotAt (run events) slot) ≡ true → slotAt (run events) slot .profile ≡ poolIn events slot
+  -- a pool without a fault
+  pub accepted : (events : List Event) (slot : ℕ) → isTaken (slotAt (run events) slot) ≡ true → verdictOf (seatOf events slot .pool) .code ≡ 0
 
 -- ---- the answer to an E.4
 
@@ -113,6 +119,23 @@ pub record Recorded (events : List Event) (s : Step) : Type 0 where
   -- "the 32-bit value", untouched
   pub value : s .value ≡ finished .message .value
 
+-- 02, request 1: "A loaded sequence passes verification before it plays; demands 2 and 3 then read for it as for a recorded one.": the step is of a load of
+-- the run that was not refused, as its blocks say it
+pub record LoadedStep (events : List Event) (s : Step) : Type 0 where
+  pub before : List Event
+  pub blocks : List ℕ
+  pub after : List Event
+  pub all : events ≡ before ++ load blocks ∷ after
+  pub accepted : Succeeds before (load blocks)
+  -- which of its steps it is, counted from 0
+  pub number : ℕ
+  pub counted : number < stepCount blocks
+  pub step : s ≡ stepAt blocks (stepPlace (clientCount blocks) number)
+
+-- from a recording of the run, or from a load of the run
+abbrev pub HasOrigin : List Event → Step → Type 0
+HasOrigin events s = Recorded events s ⊎ LoadedStep events s
+
 -- ---- from the log
 
 pub record Traced (log : List Entry) (s : Step) : Type 0 where
@@ -135,6 +158,7 @@ doesKeepBy e stops = true
 doesKeepBy e (hears slot msg out) = true
 doesKeepBy e (ticks mm out) = false
 doesKeepBy e (answers slot msg out) = false
+doesKeepBy e (loads blocks) = false
 doesKeepBy e (other n) = false
 
 abbrev pub doesKeep : Event → Bool
@@ -152,6 +176,19 @@ pub record KeptBy (events : List Event) : Type 0 where
   pub sequence : run events .sequence ≡ run (before ++ last ∷ []) .sequence
   pub steps : Every (Traced (logWith before last)) (stepsOf (run events .sequence))
 
+-- the run up to a load that was not refused, its blocks, and the calls after it, which keep the sequence
+pub record LoadedBy (events : List Event) : Type 0 where
+  pub before : List Event
+  pub blocks : List ℕ
+  pub after : List Event
+  pub all : events ≡ before ++ load blocks ∷ after
+  pub accepted : Succeeds before (load blocks)
+  pub sequence : run events .sequence ≡ loadedOf blocks .sequence
+
+-- a sequence has no step, or one recording kept it, or one load brought it
+abbrev pub Origin : List Event → Type 0
+Origin events = (stepsOf (run events .sequence) ≡ []) ⊎ (KeptBy events ⊎ LoadedBy events)
+
 -- ---- all of it
 
 pub record Promises : Type 0 where
@@ -159,18 +196,24 @@ pub record Promises : Type 0 where
   pub attached : Attaching
   pub answered : Answering
   pub opened : Opening
-  pub recorded : (events : List Event) → Every (Recorded events) (stepsOf (run events .sequence))
-  -- the same in the words of the log, which say which of the indications those two are: a sequence has no step, or each is traced to one recording
-  pub kept : (events : List Event) → (stepsOf (run events .sequence) ≡ []) ⊎ KeptBy events
+  -- each step of the sequence is from a recording of the run, or from a load of the run
+  pub recorded : (events : List Event) → Every (HasOrigin events) (stepsOf (run events .sequence))
+  -- the same in the words of the log, which say which of the indications those two are: each step is traced to one recording, or all are those of one load
+  pub kept : (events : List Event) → Origin events
   -- where a recording ends and is kept, the sequence is what its log gives: each step once and in their order, the clients that have one, and no other
   pub exact :
       (before : List Event) (last : Event) → isRecording (run before) ≡ true → doesKeep last ≡ true → run (before ++ last ∷ []) .state ≡ state.ready
       → run (before ++ last ∷ []) .sequence ≡ keptFrom (logWith before last) (run before .sequence)
+  -- where a load is not refused, the sequence is what its blocks say
+  pub loaded : (before : List Event) (blocks : List ℕ) → Succeeds before (load blocks) → run (before ++ load blocks ∷ []) .sequence ≡ loadedOf blocks .sequence
   -- and no other call changes the sequence
   pub others :
       (before : List Event) (last : Event)
       → (isRecording (run before) && doesKeep last && eqb (run (before ++ last ∷ []) .state) state.ready) ≡ false
+      → ((blocks : List ℕ) → last ≡ load blocks → Succeeds before last → ⊥)
       → run (before ++ last ∷ []) .sequence ≡ run before .sequence
+  -- 02, request 1: what is stored is loaded again, and a change inside one word is found
+  pub stored : Stored
   -- the log is of the run
   pub happened : (events : List Event) → Every (Happened events) (logOf events)
   pub happened-last : (before : List Event) (e : Event) → Every (Happened (before ++ e ∷ [])) (entriesIn before e)

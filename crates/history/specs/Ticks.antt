@@ -5,7 +5,7 @@ use mathlib.Core.Bool.{Bool}
 use mathlib.Core.List.{List, [], _∷_, _++_}
 use lib.Dec.{eqb}
 use Rattle.octets.specs.Pick.{pick}
-use Rattle.events.specs.Events.{Event, «record», Sort, stops, hears, ticks, answers, other, sortOf, whichCall}
+use Rattle.events.specs.Events.{Event, «record», Sort, stops, hears, ticks, answers, loads, other, sortOf, whichCall}
 use Rattle.history.specs.Runs.{gather, isDone}
 
 abbrev pub isRecord : Event → Bool
@@ -17,6 +17,7 @@ ticksBy l e stops = l
 ticksBy l e (hears slot msg out) = l
 ticksBy l e (ticks mm out) = l ++ mm ∷ []
 ticksBy l e (answers slot msg out) = l
+ticksBy l e (loads blocks) = l
 ticksBy l e (other n) = pick (isRecord e) [] l
 
 abbrev pub ticksAfter : List Event → Event → List ℕ → List ℕ

@@ -1,4 +1,4 @@
-// Recording over every run of calls: nothing is done, the contracts say it.
+// Recording and loading over every run of calls: nothing is done, the contracts say it.
 ghost use Rattle.history.specs.Promises.{Counting, Attaching, Answering, Opening, Promises};
 
 // What is counted is the ticks since the recording began.
@@ -21,7 +21,7 @@ pub fn opened()
     ensures { λ _. ⌜ Opening ⌝ }
 {}
 
-// All that is promised: those, and where the steps of a kept sequence come from.
+// All that is promised: those, and where the steps of a sequence come from.
 pub fn promises()
     ensures { λ _. ⌜ Promises ⌝ }
 {

@@ -3,3 +3,4 @@ pub mod Frames
 pub mod Reading
 pub mod Calls
 pub mod Slots
+pub mod Stores

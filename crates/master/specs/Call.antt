@@ -27,7 +27,7 @@ pub record Call : Type 0 where
   -- "6 pool refused, with the D.9 code and object number"
   pub code : ℕ
   pub object : ℕ
-  -- where it is done: the master after it, the frames of a tick, and the lent bytes
+  -- where it is done: the master after it, how many frames of a tick or bytes of a store there are, and the lent bytes
   pub after : Master
   pub count : ℕ
   pub written : List ℕ

@@ -6,3 +6,4 @@ pub mod Recording
 pub mod Playback
 pub mod Tick
 pub mod Readers
+pub mod Storing

@@ -22,6 +22,7 @@ pub mod messages;
 pub mod playing;
 pub mod readers;
 pub mod records;
+pub mod storing;
 pub mod ticks;
 
 // A state; the numbering is the library's own. A number that is not here counts as abort.
@@ -48,7 +49,7 @@ pub struct Master {
     pub playback: Playback,
 }
 
-// What a call gives back. With number 6 code and object are the pool's; count is the frames of a tick. All else is 0.
+// What a call gives back. With number 6 code and object are the pool's; count is the frames of a tick, or the bytes that a store wrote. All else is 0.
 #[repr(C)]
 pub struct Outcome {
     pub number: u8,

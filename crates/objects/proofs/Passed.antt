@@ -1,10 +1,10 @@
 -- What is known of an object at which stage one finds no fault, and of every object of an accepted pool.
-use Prim.Native.Nat.{ℕ, suc, _+_, _-_, _≤_, _<_}
+use Prim.Native.Nat.{ℕ, _+_, _-_, _≤_, _<_}
 use native.Mathlib.Nat.{lt-of-not-le}
 use native.Mathlib.Decide.{decLe}
 use native.Mathlib.Omega.{arith}
 use mathlib.Core.Path.{_≡_, refl, sym, ap, _∙_, subst}
-use mathlib.Core.List.{List, _∷_}
+use mathlib.Core.List.{List}
 use mathlib.Core.Bool.{Bool, true, false, not, _&&_}
 use lib.ListN.{length}
 use lib.Dec.{ltb, eqb}
@@ -16,11 +16,12 @@ use Rattle.pool.specs.declared.Head.the-variants.{Base, Function, State}
 use Rattle.pool.specs.Verdicts.{verdict, first, firstFault}
 use Rattle.pool.specs.Fields.{kindAt, baseType, stateType, baseAt, functionAt, stateAt, headAt, fixedOf, sizeAt, placesFrom}
 use Rattle.pool.specs.Ranges.{labelRight, headRight}
-use Rattle.pool.specs.StageOne.{Fault, codeOf, bytesLeft, isBase, faultsAt, codeAt, faultAt, stageOne}
+use Rattle.pool.specs.StageOne.{codeOf, bytesLeft, isBase, faultsAt, codeAt, faultAt, stageOne}
 use Rattle.pool.specs.StageTwo.{stageTwo}
 use Rattle.pool.specs.Pool.{verdictOf}
 use Rattle.pool.proofs.Faults.{first-fault, walk-here, walk-next}
 use Rattle.pool.proofs.Walk.{size-least}
+use Rattle.pool.proofs.Labels.{code-late, right-where}
 use Rattle.objects.specs.declared.Kind.the-variants.{Of}
 use Rattle.objects.specs.Objects.{isAt, labelsRight, kindRight}
 use Rattle.objects.proofs.Limits.{and-l, and-r}
@@ -51,21 +52,10 @@ at-is s at i = rw (le-ltb 16384 (length s) (i .short), lt-ltb at (length s) (i .
 
 -- ---- an object at which stage one finds no fault
 
-code-late : (b : Bool) (c : ℕ) (fs : List Fault) → codeOf ((b, suc c) ∷ fs) ≡ 0 → (b ≡ false) × (codeOf fs ≡ 0)
-unfolding codeOf pick
-code-late true c fs e = absurd (omega arith)
-code-late false c fs e = (refl, e)
-
 no-wrong : (a b : Bool) → (a ≡ true → b ≡ true) → (a && not b) ≡ false
 no-wrong true true h = refl
 no-wrong true false h = sym (h refl)
 no-wrong false b h = refl
-
-right-where : (a b : Bool) → a ≡ true → (a && not b) ≡ false → b ≡ true
-right-where true true t e = refl
-right-where true false t e = sym e
-right-where false true t e = refl
-right-where false false t e = t
 
 pub record Passed (s : List ℕ) (at : ℕ) : Type 0 where
   pub kind : kindAt s at ≤ 2

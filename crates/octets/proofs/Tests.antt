@@ -1,6 +1,6 @@
 -- What the tests that led to a return say of a choice, and `tests`, by which `search` puts them to use.
-use mathlib.Core.Path.{_≡_, sym, _∙_, ap}
-use mathlib.Core.Bool.{Bool, true, false, not}
+use mathlib.Core.Path.{_≡_, refl, sym, _∙_, ap}
+use mathlib.Core.Bool.{Bool, true, false, not, _&&_, true≢false}
 use borrow.Author.Tests.{eq-eqb, ne-eqb, le-leb, lt-leb, le-ltb, lt-ltb, not-true, not-false}
 use Rattle.octets.specs.Pick.{pick}
 
@@ -18,6 +18,11 @@ pub pick-both : {X : Type 0} (P : X → Type 0) (b : Bool) {x y : X} → P x →
 unfolding pick
 pick-both P true p q = p
 pick-both P false p q = q
+
+-- two tests that both hold
+pub both : (a b : Bool) → (a && b) ≡ true → (a ≡ true) × (b ≡ true)
+both true b e = (refl, e)
+both false b e = absurd (true≢false (sym e))
 
 -- a test is what the function that was called ensures of it
 pub said : (r b v : Bool) → r ≡ b → r ≡ v → b ≡ v

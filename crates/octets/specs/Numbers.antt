@@ -65,3 +65,12 @@ noneEnabled = 14
 -- "15 answer matches no sent step; ignored"
 abbrev pub noMatch : ℕ
 noMatch = 15
+
+-- 02, request 1: "16 the check of a whole lent block"
+abbrev pub checkWrong : ℕ
+checkWrong = 16
+
+-- 02, request 1: "17 counts or fields out of range (..), fill not zero, a slot twice, blocks missing or left over, a step without its client's record or a
+-- record without a step"
+abbrev pub notStored : ℕ
+notStored = 17

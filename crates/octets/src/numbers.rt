@@ -1,4 +1,4 @@
-// The numbers that a call gives back, as document 01 has them.
+// The numbers that a call gives back, as document 01 has them, and from 16 on as document 02 has them.
 pub const DONE: u8 = 0;
 
 pub const TOO_SHORT: u8 = 1;
@@ -30,3 +30,7 @@ pub const NOT_DISABLED: u8 = 13;
 pub const NONE_ENABLED: u8 = 14;
 
 pub const NO_MATCH: u8 = 15;
+
+pub const CHECK_WRONG: u8 = 16;
+
+pub const NOT_STORED: u8 = 17;

@@ -21,11 +21,11 @@ use Rattle.master.specs.Playback.{answered, replied, answerCall}
 use Rattle.master.specs.Tick.{playbackTicked, ticked, tickCall}
 use Rattle.replay.specs.Run.{State, going, done, aborted, afterTick, afterAnswer, stepOf}
 use Rattle.replay.specs.Run as replay
-use Rattle.events.specs.Events.{Event, tick, answer, Sort, stops, hears, ticks, answers, sortOf, numberBy, whichCall, callOf, apply}
+use Rattle.events.specs.Events.{Event, tick, answer, Sort, stops, hears, ticks, answers, loads, sortOf, numberBy, whichCall, callOf, apply}
 use Rattle.events.specs.Events as events
 use Rattle.events.proofs.Outside.{Outside}
 use Rattle.events.proofs.Calls.{either-way}
-use Rattle.events.proofs.Changes.{Near, itself, slotted, Change, rested, moved, dropped, broken, recordStarts, recordWaits, recordEnds, recordHears, recordHearsLast, recordTicks, playStarts, playTicks, playTicksLast, playHears, playHearsLast, not-recording}
+use Rattle.events.proofs.Changes.{Near, itself, slotted, Change, rested, moved, dropped, broken, recordStarts, recordWaits, recordEnds, recordHears, recordHearsLast, recordTicks, playStarts, playTicks, playTicksLast, playHears, playHearsLast, loaded, not-recording}
 use Rattle.events.proofs.Invariant.{done-change}
 use Rattle.plays.specs.Plays.{Playing, tickBy, tickIn}
 use Rattle.playback.specs.State.{goesOn, toReady, toAbort}
@@ -68,6 +68,7 @@ module _ (m : Master) (h : Playing m) where
   changed e n a (playTicksLast mm out p) = absurd (a .0 refl)
   changed e n a (playHears slot msg out p) = absurd (a .1 refl)
   changed e n a (playHearsLast slot msg out s p r l) = absurd (a .1 refl)
+  changed e n a (loaded blocks r z) = absurd (omega (arith, r, h))
 
   -- refused, or done
   pub stays : (e : Event) → Aside e → Stays m e (apply m e .master)
@@ -84,6 +85,7 @@ seenBy m e stops = heeded (apply m e .master .state)
 seenBy m e (hears slot msg out) = heeded (apply m e .master .state)
 seenBy m e (ticks mm out) = pick (eqb (apply m e .number) 0) (replay.tick mm) replay.message
 seenBy m e (answers slot msg out) = pick (eqb (apply m e .number) 0) (replay.answer slot (replyIn msg)) replay.message
+seenBy m e (loads blocks) = heeded (apply m e .master .state)
 seenBy m e (events.other n) = heeded (apply m e .master .state)
 
 abbrev pub seen : Master → Event → replay.PlaybackEvent
@@ -182,6 +184,7 @@ view-by m e stops q = aside m e stops q (λ z. omega arith) (λ z. omega arith) 
 view-by m e (hears slot msg out) q = aside m e (hears slot msg out) q (λ z. omega arith) (λ z. omega arith) refl refl
 view-by m e (ticks mm out) q = aTick mm out
 view-by m e (answers slot msg out) q = anAnswer slot msg out
+view-by m e (loads blocks) q = aside m e (loads blocks) q (λ z. omega arith) (λ z. omega arith) refl refl
 view-by m e (events.other n) q = aside m e (events.other n) q (λ z. omega arith) (λ z. omega arith) refl refl
 
 pub view : (m : Master) (e : Event) → View m e

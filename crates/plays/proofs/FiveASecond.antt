@@ -27,16 +27,17 @@ use Rattle.master.specs.Messages.{replyIn}
 use Rattle.master.specs.Recording.{recordingEnded, recordCall, stopCall, cancelCall, indicationCall}
 use Rattle.master.specs.Clients.{onCall, offCall, attachCall, wantCall, reportCall, lostCall}
 use Rattle.master.specs.Playback.{startCall, abortCall, clientAbortCall, answerCall}
+use Rattle.master.specs.Storing.{loadCall}
 use Rattle.replay.specs.Run.{sentAt}
 use Rattle.replay.proofs.Cells.{marked-left, marked-tan}
-use Rattle.events.specs.Events.{Event, on, off, «record», stop, cancel, start, abort, attach, enable, disable, report, lost, indication, clientAbort, tick, answer, whichCall, callOf, apply, lentAfter, runFrom, Given}
+use Rattle.events.specs.Events.{Event, on, off, «record», stop, cancel, start, abort, attach, enable, disable, report, lost, indication, clientAbort, tick, answer, store, load, Sort, stops, hears, ticks, answers, loads, other, sortOf, numberBy, whichCall, callOf, apply, lentAfter, runFrom, Given}
 use Rattle.events.proofs.Calls.{number-is, same-master, after-is, count-is, either-way}
 use Rattle.events.proofs.Choices.{chosen, either}
-use Rattle.events.proofs.Changes.{Near, itself, slotted, Change, rested, moved, dropped, broken, recordStarts, recordWaits, recordEnds, recordHears, recordHearsLast, recordTicks, playStarts, playTicks, playTicksLast, playHears, playHearsLast}
+use Rattle.events.proofs.Changes.{Near, itself, slotted, Change, rested, moved, dropped, broken, recordStarts, recordWaits, recordEnds, recordHears, recordHearsLast, recordTicks, playStarts, playTicks, playTicksLast, playHears, playHearsLast, loaded}
 use Rattle.events.proofs.Invariant.{done-change, given-next}
 use Rattle.plays.specs.Plays.{Started, Playing, Lasts, tickIn, ticksIn, tanOf, commandOf}
 use Rattle.plays.specs.Frames.{Leaves, FramesAt, frameAt}
-use Rattle.plays.specs.FiveASecond.{timesAmong, timesAt, timesIn, FiveASecond}
+use Rattle.plays.specs.FiveASecond.{timesAmong, timesBy, timesAt, timesIn, FiveASecond}
 use Rattle.plays.proofs.Calls.{View, aTick, anAnswer, another, view}
 use Rattle.plays.proofs.Runs.{run-append, ticks-append, lasts-last, lasts-left, whole-at}
 use Rattle.plays.proofs.Commands.{command-is, differ, tans-differ}
@@ -161,6 +162,7 @@ calm-changed m e n a (playTicks mm out p l t) = absurd (a refl)
 calm-changed m e n a (playTicksLast mm out p) = absurd (a refl)
 calm-changed m e n a (playHears slot msg out p) = record { tan = refl; cells = answered-kept (m .playback) (m .sequence) slot (replyIn msg) }
 calm-changed m e n a (playHearsLast slot msg out s p r l) = blank m n refl refl
+calm-changed m e n a (loaded blocks r z) = still m n refl refl
 
 calm : (m : Master) (e : Event) → (whichCall e ≡ 2 → ⊥) → Calm m (apply m e .master)
 calm m e a = either-way m (callOf m e) (Calm m) (λ _. still m m refl refl) (λ z. calm-changed m e _ a (done-change m e z))
@@ -303,8 +305,8 @@ module _ (m : Master) (s : Started m) (es : List Event) (mm : ℕ) (out : List �
       none q (no h) = omega arith
 
 -- no frames
-no-times : (frame : List ℕ) (m : Master) (e : Event) → apply m e .count ≡ 0 → timesAt frame m e ≡ 0
-no-times frame m e c = ap (λ (n : ℕ). timesAmong frame n (lentAfter m e)) c
+no-times : (frame : List ℕ) (m : Master) (mm : ℕ) (out : List ℕ) → apply m (tick mm out) .count ≡ 0 → timesAt frame m (tick mm out) ≡ 0
+no-times frame m mm out c = ap (λ (n : ℕ). timesAmong frame n (lentAfter m (tick mm out))) c
 
 module _ (m : Master) (g : Given m) (mm : ℕ) (out : List ℕ) (z : apply m (tick mm out) .number ≡ 0) (frame : List ℕ) where
   -- no tick starts a playback
@@ -328,37 +330,47 @@ module _ (m : Master) (g : Given m) (mm : ℕ) (out : List ℕ) (z : apply m (ti
 
       nothing : ¬ Playing (apply m (tick mm out) .master) → Ticking frame m (apply m (tick mm out) .master) (timesAt frame m (tick mm out))
       nothing np =
-          let e = no-times frame m (tick mm out) (no-frames m mm out z np .1) in
+          let e = no-times frame m mm out (no-frames m mm out z np .1) in
           record { one = omega (arith, e); later = λ h. absurd (omega (arith, e, h)); earlier = λ q. e }
 
 -- ---- every other call has no frames
 
-bare-count : (m : Master) (e : Event) → (whichCall e ≡ 2 → ⊥) → callOf m e .count ≡ 0
-unfolding onCall offCall attachCall wantCall reportCall lostCall recordCall stopCall cancelCall indicationCall startCall abortCall clientAbortCall answerCall
-bare-count m on a = refl
-bare-count m off a = refl
-bare-count m «record» a = refl
-bare-count m stop a = refl
-bare-count m cancel a = refl
-bare-count m start a = refl
-bare-count m abort a = refl
-bare-count m (attach slot name pool) a = refl
-bare-count m (enable slot out) a = refl
-bare-count m (disable slot out) a = refl
-bare-count m (report slot number) a = refl
-bare-count m (lost slot) a = refl
-bare-count m (indication slot msg out) a = refl
-bare-count m (clientAbort slot msg) a = refl
-bare-count m (tick mm out) a = absurd (a refl)
-bare-count m (answer slot msg out) a = refl
+no-tick : (frame : List ℕ) (m : Master) (e : Event) (s : Sort e) → (numberBy s ≡ 2 → ⊥) → timesBy frame m e s ≡ 0
+no-tick frame m e stops a = refl
+no-tick frame m e (hears slot msg out) a = refl
+no-tick frame m e (ticks mm out) a = absurd (a refl)
+no-tick frame m e (answers slot msg out) a = refl
+no-tick frame m e (loads blocks) a = refl
+no-tick frame m e (other n) a = refl
+
+bare-count : (m : Master) (e : Event) → ((mm : ℕ) (out : List ℕ) → e ≡ tick mm out → ⊥) → ((out : List ℕ) → e ≡ store out → ⊥) → callOf m e .count ≡ 0
+unfolding onCall offCall attachCall wantCall reportCall lostCall recordCall stopCall cancelCall indicationCall startCall abortCall clientAbortCall answerCall loadCall
+bare-count m on a b = refl
+bare-count m off a b = refl
+bare-count m «record» a b = refl
+bare-count m stop a b = refl
+bare-count m cancel a b = refl
+bare-count m start a b = refl
+bare-count m abort a b = refl
+bare-count m (attach slot name pool) a b = refl
+bare-count m (enable slot out) a b = refl
+bare-count m (disable slot out) a b = refl
+bare-count m (report slot number) a b = refl
+bare-count m (lost slot) a b = refl
+bare-count m (indication slot msg out) a b = refl
+bare-count m (clientAbort slot msg) a b = refl
+bare-count m (tick mm out) a b = absurd (a mm out refl)
+bare-count m (answer slot msg out) a b = refl
+bare-count m (store out) a b = absurd (b out refl)
+bare-count m (load blocks) a b = refl
 
 refused-count : (m : Master) (c : Call) → (outcomeOf m c .number ≡ 0 → ⊥) → outcomeOf m c .count ≡ 0
 unfolding pick outcomeOf
 refused-count m c h = rw (ne-eqb (numberOf c) 0 h)
 
-no-count : (m : Master) (e : Event) → (whichCall e ≡ 2 → ⊥) → apply m e .count ≡ 0
-no-count m e a =
-    either (eqb (apply m e .number) 0) (λ t. count-is m (callOf m e) (eqb-true _ 0 t) ∙ bare-count m e a) (λ f. refused-count m (callOf m e) (eqb-false _ 0 f))
+no-count : (m : Master) (e : Event) → ((mm : ℕ) (out : List ℕ) → e ≡ tick mm out → ⊥) → ((out : List ℕ) → e ≡ store out → ⊥) → apply m e .count ≡ 0
+no-count m e a b =
+    either (eqb (apply m e .number) 0) (λ t. count-is m (callOf m e) (eqb-true _ 0 t) ∙ bare-count m e a b) (λ f. refused-count m (callOf m e) (eqb-false _ 0 f))
 
 -- ---- along the calls
 
@@ -369,10 +381,9 @@ record Rate (frame : List ℕ) (m : Master) (es : List Event) : Type 0 where
 
 module _ (frame : List ℕ) (m : Master) (e : Event) (es : List Event) (r : Rate frame (apply m e .master) es) where
   -- a call without frames that is no accepted tick
-  rate-aside : Calm m (apply m e .master) → tickIn m e ≡ [] → apply m e .count ≡ 0 → Rate frame m (e ∷ es)
-  rate-aside c t n =
+  rate-aside : Calm m (apply m e .master) → tickIn m e ≡ [] → timesAt frame m e ≡ 0 → Rate frame m (e ∷ es)
+  rate-aside c t x =
       let k = ap (λ (x : List ℕ). length (x ++ ticksIn (apply m e .master) es)) t in
-      let x = no-times frame m e n in
       record {
         all = omega (arith, r .all, k, x);
         after-silence = λ s. omega (arith, r .after-silence (silent-calm (tanIn frame) m (apply m e .master) c s), k, x);
@@ -390,10 +401,9 @@ module _ (frame : List ℕ) (m : Master) (e : Event) (es : List Event) (r : Rate
       go (no h) = omega (arith, r .all, k)
 
 rate-one : (frame : List ℕ) (m : Master) (e : Event) (es : List Event) → Given m → View m e → Rate frame (apply m e .master) es → Rate frame m (e ∷ es)
-rate-one frame m e es g (another a q t) r = rate-aside frame m e es r (calm m e (a .0)) t (no-count m e (a .0))
+rate-one frame m e es g (another a q t) r = rate-aside frame m e es r (calm m e (a .0)) t (no-tick frame m e (sortOf e) (a .0))
 rate-one frame m e es g (anAnswer slot msg out) r =
-    let a : whichCall (answer slot msg out) ≡ 2 → ⊥ = λ k. omega (arith, k) in
-    rate-aside frame m (answer slot msg out) es r (calm m (answer slot msg out) a) refl (no-count m (answer slot msg out) a)
+    rate-aside frame m (answer slot msg out) es r (calm m (answer slot msg out) (λ k. omega (arith, k))) refl refl
 rate-one frame m e es g (aTick mm out) r =
     either (eqb (apply m (tick mm out) .number) 0)
     (λ t. rate-tick frame m (tick mm out) es r mm (pick-true _ _ _ t) (ticking m g mm out (eqb-true _ 0 t) frame))
@@ -401,7 +411,7 @@ rate-one frame m e es g (aTick mm out) r =
     let n = eqb-false (apply m (tick mm out) .number) 0 f in
     let c = same-master m (callOf m (tick mm out)) n in
     rate-aside frame m (tick mm out) es r (still m _ (ap (λ (k : Master). k .tan) c) (ap (λ (k : Master). k .playback) c)) (pick-false _ _ _ f)
-    (refused-count m (callOf m (tick mm out)) n))
+    (no-times frame m mm out (refused-count m (callOf m (tick mm out)) n)))
 
 rate : (frame : List ℕ) (es : List Event) (m : Master) → Given m → Rate frame m es
 rate frame [] m g = record { all = omega arith; after-silence = λ s. omega arith }
@@ -412,4 +422,5 @@ pub five-a-second : FiveASecond
 five-a-second = record {
   five = λ m g es h frame. omega (arith, rate frame es m g .all, h);
   apart = λ m g es h frame. omega (arith, rate frame es m g .all, h);
+  no-other = no-count;
 }

@@ -12,7 +12,7 @@ use Rattle.sequence.specs.{Sequence.blankStep, declared.Step.Step}
 use Rattle.replay.specs.Run.{sentAt, Latest}
 use Rattle.master.specs.declared.Master.{Master}
 use Rattle.master.specs.States as states
-use Rattle.events.specs.Events.{Event, start, tick, answer, Sort, stops, hears, ticks, answers, other, sortOf, apply, runFrom, Given}
+use Rattle.events.specs.Events.{Event, start, tick, answer, Sort, stops, hears, ticks, answers, loads, other, sortOf, apply, runFrom, Given}
 use Rattle.seen.specs.Words.{nth}
 
 -- the master after an accepted start; the master before it is one that calls give
@@ -36,6 +36,7 @@ tickBy m e stops = []
 tickBy m e (hears slot msg out) = []
 tickBy m e (ticks mm out) = pick (eqb (apply m (tick mm out) .number) completed) (mm ∷ []) []
 tickBy m e (answers slot msg out) = []
+tickBy m e (loads blocks) = []
 tickBy m e (other n) = []
 
 abbrev pub tickIn : Master → Event → List ℕ

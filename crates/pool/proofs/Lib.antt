@@ -3,3 +3,4 @@ pub mod Faults
 pub mod Lists
 pub mod Repeats
 pub mod Index
+pub mod Labels

@@ -189,7 +189,7 @@ fn is_forbidden(c: u8) -> bool
     is_in(c, &FORBIDDEN)
 }
 
-fn character_right(c: u8) -> bool
+pub fn character_right(c: u8) -> bool
     ensures { λ r. ⌜ r ≡ characterRight c ⌝ }
 {
     (((0x20 <= c) & (c <= 0x7E)) | (0xA0 <= c)) & !is_forbidden(c)

@@ -1,8 +1,9 @@
 -- From the bytes of an E.4 to the bytes of a frame.
-use Prim.Native.Nat.{ℕ, _+_, _/_, _%_, _<_}
+use Prim.Native.Nat.{ℕ, _+_, _/_, _%_, _≤_, _<_}
 use mathlib.Core.Path.{_≡_, refl, sym, ap, subst, _∙_}
-use mathlib.Core.Bool.{Bool, true}
-use mathlib.Core.List.{List, [], _∷_, _++_}
+use mathlib.Core.Bool.{true}
+use mathlib.Core.Logic.{inl, inr}
+use mathlib.Core.List.{List, [], _∷_}
 use native.Mathlib.Omega.{arith}
 use lib.ListN.{length, take, drop, getD, length-take, length-drop}
 use lib.Seq.{getD-take, take-all}
@@ -15,22 +16,27 @@ use Rattle.message.specs.declared.Execution.{Execution}
 use Rattle.sequence.specs.Sequence.{blankStep, lengthOf, stepsOf}
 use Rattle.sequence.specs.declared.Step.{Step}
 use Rattle.sequence.specs.declared.Sequence.{Sequence}
+use Rattle.store.specs.{Blocks.stepPlace, Promises.Accepted}
+use Rattle.store.specs.Loaded as loaded
+use Rattle.store.specs.Loaded.{clientCount, loadNumber, loadedOf}
+use Rattle.store.proofs.Accepted.{accepted}
+use Rattle.store.proofs.Contents.{stores-some}
 use Rattle.master.specs.declared.Master.{Master}
 use Rattle.flat.specs.Flat.{executionStep, executionFrom}
 use Rattle.master.specs.Messages.{executionIn, isIndication}
-use Rattle.events.specs.Events.{Event, start, tick, whichCall, apply, lentAfter, run, runFrom}
-use Rattle.seen.specs.Words.{Done, Bytes, nth}
+use Rattle.events.specs.Events.{Event, start, whichCall, apply, run}
+use Rattle.seen.specs.Words.{Bytes, nth}
 use Rattle.seen.specs.Ways.{Ways}
 use Rattle.seen.proofs.Reading.{indication-is, byte-below}
 use Rattle.seen.proofs.Tests.{is-indication}
 use Rattle.seen.proofs.Telling.{is-E4}
 use Rattle.history.specs.Steps.{Entry}
 use Rattle.history.specs.Promises as history
-use Rattle.history.specs.Promises.{Happened, Recorded}
+use Rattle.history.specs.Promises.{Recorded, LoadedStep, HasOrigin}
+use Rattle.history.proofs.Loads.{is-accepted}
 use Rattle.plays.specs.Promises as plays
-use Rattle.plays.specs.Plays.{Started, Lasts, stepAt, tanOf, commandOf}
-use Rattle.plays.specs.Frames.{Unanswered, frameAt}
-use Rattle.promises.specs.Replayed.{Replays, Replayed}
+use Rattle.plays.specs.Plays.{Started, stepAt, tanOf}
+use Rattle.promises.specs.Replayed.{ReplaysOrigin, Replayed}
 
 -- ---- four bytes of a value
 
@@ -78,6 +84,41 @@ module _ (events : List Event) (s : Step) (r : Recorded events s) where
       let value : s .value ≡ numberAt 4 msg 4 = r .value ∙ ap (λ (e : Execution). e .value) message-is in
       nine tan slot function state (ap four value ∙ value-bytes msg b (is-E4 msg .0 read .0))
 
+-- ---- a step that was loaded, by the bytes of its blocks
+
+accepts : (s : List ℕ) → loadNumber s ≡ 0 → Accepted s (loadedOf s .sequence)
+unfolding loadedOf
+accepts s z = accepted s z
+
+module _ (events : List Event) (s : Step) (r : LoadedStep events s) where
+  abbrev blocks : List ℕ
+  blocks = r .blocks
+
+  abbrev place : ℕ
+  place = stepPlace (clientCount blocks) (r .number)
+
+  -- its sixteen bytes are within them
+  within : place + 16 ≤ length blocks
+  within =
+      let z = is-accepted (r .before) blocks (r .accepted) in
+      let a = accepts blocks z in
+      let q = loadedOf blocks .sequence in
+      let few = a .legal .some-step in
+      let most = a .legal .sound .few in
+      let whole = stores-some q (λ e. omega (arith, e, few)) in
+      omega (arith, r .counted, a .blocks, a .clients, a .steps, whole)
+
+  from-blocks : Bytes blocks → (tan : ℕ)
+      → s .slot ∷ 0x33 ∷ s .function ∷ s .state ∷ tan ∷ four (s .value)
+      ≡ getD blocks place 0 ∷ 0x33 ∷ getD blocks (place + 1) 0 ∷ getD blocks (place + 2) 0 ∷ tan ∷ take 4 (drop (place + 8) blocks)
+  unfolding loaded.stepAt
+  from-blocks b tan =
+      let l = within in
+      let e = r .step in
+      nine tan (ap (λ (x : Step). x .slot) e) (ap (λ (x : Step). x .function) e) (ap (λ (x : Step). x .state) e)
+      (ap (λ (x : Step). four (x .value)) e ∙ sym (four-bytes (numberAt 4 blocks (place + 8)))
+      ∙ bytes-of-number 4 blocks (place + 8) (λ k. byte-below blocks k b) (omega arith))
+
 -- ---- a frame
 
 abbrev stepIn : Sequence → ℕ → Step
@@ -92,7 +133,14 @@ of-step P q full i l h =
 
 -- a start keeps the sequence
 kept : Ways → (m : Master) → apply m start .master .sequence ≡ m .sequence
-kept w m = w .keeps m start (λ e. omega (arith, ap whichCall e)) (λ slot msg out e. omega (arith, ap whichCall e))
+kept w m = w .keeps m start (λ e. omega (arith, ap whichCall e)) (λ slot msg out e. omega (arith, ap whichCall e)) (λ blocks e. omega (arith, ap whichCall e))
+
+-- a frame that commands the step, by its origin
+by-origin :
+    (events : List Event) (s : Step) (tan : ℕ) (frame : List ℕ) → frame ≡ s .slot ∷ 0x33 ∷ s .function ∷ s .state ∷ tan ∷ four (s .value) → HasOrigin events s
+    → ReplaysOrigin events s tan frame
+by-origin events s tan frame e (inl r) = inl (record { recorded = r; bytes = λ b. e ∙ from-bytes events s r b tan })
+by-origin events s tan frame e (inr r) = inr (record { loaded = r; bytes = λ b. e ∙ from-blocks events s r b tan })
 
 pub replayed : Ways → history.Promises → plays.Promises → Replayed
 replayed w h p events z es mm out l a k n =
@@ -102,7 +150,7 @@ replayed w h p events z es mm out l a k n =
     let i : ℕ = o .0 in
     let there : i < lengthOf (m .sequence) = o .1 .0 .0 .1 .0 .none-later i (omega arith) .1 .reaching .there in
     let q = kept w (run events) in
-    let r : Recorded events (stepAt m i) =
-    subst (λ (x : Sequence). Recorded events (stepIn x i)) (sym q)
-    (of-step (Recorded events) (run events .sequence) (p .leavings .whole (run events) (events, refl)) i (subst (λ (x : Sequence). i < lengthOf x) q there) (h .recorded events)) in
-    (i, (o .1 .0, record { recorded = r; bytes = λ b. o .1 .1 ∙ p .frames .command m s i there ∙ from-bytes events (stepAt m i) r b (tanOf m i) }))
+    let r : HasOrigin events (stepAt m i) =
+    subst (λ (x : Sequence). HasOrigin events (stepIn x i)) (sym q)
+    (of-step (HasOrigin events) (run events .sequence) (p .leavings .whole (run events) (events, refl)) i (subst (λ (x : Sequence). i < lengthOf x) q there) (h .recorded events)) in
+    (i, (o .1 .0, by-origin events (stepAt m i) (tanOf m i) _ (o .1 .1 ∙ p .frames .command m s i there) r))

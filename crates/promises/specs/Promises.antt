@@ -7,6 +7,7 @@ use Rattle.message.specs.{Promises.ComesBack, Promises.Refuses, Clauses.Clauses
 use Rattle.flat.specs.{Flat.BackAgain, ReadBack.ReadBack}
 use Rattle.shown.specs.{Promises.ShownValue, Examples.ShownExamples}
 use Rattle.recording.specs.Promises as recording
+use Rattle.store.specs.Promises as store
 use Rattle.playback.specs.Promises.{Verifies, Agrees, Changes, Framing}
 use Rattle.events.specs.Promises as events
 use Rattle.seen.specs.{Written.Written, Numbers.Numbers, Ways.Ways, Tan.Tan, Blank.BlankOutside, AllEnabled.AllEnabled}
@@ -51,6 +52,9 @@ pub record Promises : Type 0 where
   -- "Recording keeps each step as 01 defines it, the 32-bit value untouched.": of one message on any recording, and over every run of calls
   pub recording : recording.Promises
   pub recorded : history.Promises
+  -- 02, request 1: what is stored is loaded again, a change is found, and what is accepted is in its ranges: of any sequence and any bytes. Over every run
+  -- of calls it is `recorded .stored`
+  pub blocks : store.Promises
   -- "Playback starts exactly when every check of 01 holds; otherwise the first check that does not hold is named."
   pub verification : Verifies
   pub names : Agrees

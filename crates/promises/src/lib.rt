@@ -24,5 +24,6 @@ pub fn promises()
     seen::promises();
     history::promises();
     plays::promises();
+    store::promises();
     bound::determined()
 }

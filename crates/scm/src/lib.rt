@@ -20,6 +20,7 @@ ghost use Rattle.master.specs.Clients.{onCall, offCall, attachCall, wantCall, r
 ghost use Rattle.master.specs.Recording.{recordCall, stopCall, cancelCall, indicationCall};
 ghost use Rattle.master.specs.Playback.{startCall, abortCall, clientAbortCall, answerCall};
 ghost use Rattle.master.specs.Tick.{tickCall};
+ghost use Rattle.master.specs.Storing.{storeCall, loadCall};
 ghost use Rattle.master.specs.Readers.{stateOf, slotView, stepView, clientView, verifyView, progressOf, takenView, sentView};
 ghost use Rattle.scm.specs.Version.{version};
 use flat::Flat;
@@ -43,8 +44,8 @@ use rewrite::Rewritten;
 use sequence::Sequence;
 use shown::Shown;
 
-// 1.0.0: major * 1,000,000 + minor * 1,000 + patch.
-const VERSION: u32 = 1000000;
+// 1.1.0: major * 1,000,000 + minor * 1,000 + patch.
+const VERSION: u32 = 1001000;
 
 #[no_mangle]
 pub extern "C" fn scm_version() -> u32
@@ -277,6 +278,22 @@ pub extern "C" fn scm_master_answer(
     ensures { λ _. ⌜ now (out .exit) ≡ leavesOf (answerCall master slot (now (msg .entry)) (now (out .entry))) ⌝ }
 {
     master.answer(slot, msg, out)
+}
+
+// The sequence's blocks out.
+#[no_mangle]
+pub extern "C" fn scm_master_store(master: Master, blocks: &mut [u8]) -> Outcome
+    ensures { λ r. ⌜ r ≡ outcomeOf master (storeCall master (now (blocks .entry))) ⌝ }
+    ensures { λ _. ⌜ now (blocks .exit) ≡ leavesOf (storeCall master (now (blocks .entry))) ⌝ }
+{
+    master.store(blocks)
+}
+
+#[no_mangle]
+pub extern "C" fn scm_master_load(master: Master, blocks: &[u8]) -> Outcome
+    ensures { λ r. ⌜ r ≡ outcomeOf master (loadCall master (now (blocks .entry))) ⌝ }
+{
+    master.load(blocks)
 }
 
 // ---- The readers: each takes the part of the master that it reads, or the whole where it reads the slots.

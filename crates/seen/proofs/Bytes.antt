@@ -31,13 +31,14 @@ use Rattle.master.specs.States.{isPlaying, ended}
 use Rattle.master.specs.Clients.{onCall, offCall, attachCall, wantCall, reportCall, lostCall}
 use Rattle.master.specs.Recording.{Hearing, recordCall, stopCall, cancelCall, interrupted, heard, indicationCall}
 use Rattle.master.specs.Playback.{startCall, abortCall, clientAbortCall, answerCall}
+use Rattle.master.specs.Storing.{storeCall, loadCall}
 use Rattle.master.specs.Messages.{isIndication, executionIn, responseOut, receiptOut}
-use Rattle.events.specs.Events.{enable, disable, indication, answer, callOf, apply, Given}
+use Rattle.events.specs.Events.{enable, disable, indication, answer, store, callOf, apply, Given}
 use Rattle.events.proofs.Choices.{chosen, is-false, is-true}
-use Rattle.events.proofs.Calls.{after-is, written-is}
+use Rattle.events.proofs.Calls.{after-is, count-is, written-is}
 use Rattle.events.proofs.Regular.{length-steps, given-regular}
 use Rattle.seen.specs.Words.{nth, Bytes, Done}
-use Rattle.seen.specs.Written.{IsStep, Orders, Acknowledges, Responds, Responses, LentNothing, Written}
+use Rattle.seen.specs.Written.{IsStep, Orders, Acknowledges, Responds, Responses, Stores, LentNothing, Written}
 use Rattle.seen.proofs.Tests.{is-indication, passed-by, some-at, none-at}
 use Rattle.seen.proofs.Reading.{indication-is, answer-is, packed-again, byte-below}
 
@@ -166,10 +167,19 @@ responses = record {
   ignores = λ m slot msg out g b z p n. ignores m slot msg out z p b n;
 }
 
+-- ---- blocks
+
+stores : Stores
+unfolding storeCall
+stores = record {
+  blocks = λ m out z. written-is m (callOf m (store out)) z;
+  counts = λ m out z. count-is m (callOf m (store out)) z;
+}
+
 -- ---- calls that are lent nothing
 
 nothing : LentNothing
-unfolding leavesOf onCall offCall attachCall reportCall lostCall recordCall stopCall cancelCall startCall abortCall clientAbortCall
+unfolding leavesOf onCall offCall attachCall reportCall lostCall recordCall stopCall cancelCall startCall abortCall clientAbortCall loadCall
 nothing = record {
   switching = λ m. (same _, same _);
   recording = λ m. (same _, same _, same _);
@@ -178,10 +188,11 @@ nothing = record {
   reporting = λ m slot number. same _;
   losing = λ m slot. same _;
   aborting = λ m slot msg. same _;
+  loading = λ m blocks. same _;
 }
   where
     same : (b : Bool) → pick {X = List ℕ} b [] [] ≡ []
     same b = chosen (λ (l : List ℕ). l ≡ []) b [] [] refl refl
 
 pub written : Written
-written = record { orders = orders; acknowledges = acknowledges; responses = responses; nothing = nothing }
+written = record { orders = orders; acknowledges = acknowledges; responses = responses; stores = stores; nothing = nothing }

@@ -19,17 +19,18 @@ use Rattle.recording.specs.declared.Taken.{Taken}
 use Rattle.recording.proofs.Steps.{both}
 use Rattle.master.specs.declared.Master.{Master}
 use Rattle.master.specs.Call.{slotAt}
-use Rattle.master.specs.States.{isRecording, isPlaying, isAborting, withState, withSlot, ended, settled}
+use Rattle.master.specs.States.{isRecording, isPlaying, isAborting, withState, withSlot, withSequence, ended, settled}
 use Rattle.master.specs.Clients as clients
 use Rattle.master.specs.Clients.{isOver, endOf, followed, reportFrom, reportedSlot, reported, onCall, offCall, attachCall, wantCall, reportCall, lostCall}
 use Rattle.master.specs.Recording.{Hearing, recordCall, recordingEnded, stopped, stopCall, cancelCall, recorded, heard, indicationCall}
 use Rattle.master.specs.Playback.{startCall, abortCall, unheeded, clientAbortCall, unmatched, answerCall}
 use Rattle.master.specs.Tick.{recordingTicked, playbackTicked, ticked, tickCall}
+use Rattle.master.specs.Storing.{storeCall, loadCall}
 use Rattle.master.specs.Messages.{executionIn}
-use Rattle.events.specs.Events.{Event, on, off, «record», stop, cancel, start, abort, attach, enable, disable, report, lost, indication, clientAbort, tick, answer, callOf, apply}
+use Rattle.events.specs.Events.{Event, on, off, «record», stop, cancel, start, abort, attach, enable, disable, report, lost, indication, clientAbort, tick, answer, store, load, callOf, apply}
 use Rattle.events.proofs.Choices.{chosen, chosen-by, either, is-false, is-true}
 use Rattle.events.proofs.Calls.{after-is, same-master, either-way}
-use Rattle.events.proofs.Changes.{Near, itself, slotted, Change, rested, moved, dropped, broken, recordStarts, recordWaits, recordEnds, recordHears, recordHearsLast, recordTicks, playStarts, playTicks, playTicksLast, playHears, playHearsLast, one-of, passes, reported-number, heardIn}
+use Rattle.events.proofs.Changes.{Near, itself, slotted, Change, rested, moved, dropped, broken, recordStarts, recordWaits, recordEnds, recordHears, recordHearsLast, recordTicks, playStarts, playTicks, playTicksLast, playHears, playHearsLast, loaded, one-of, passes, reported-number, heardIn}
 use Rattle.events.proofs.Invariant.{done-change}
 use Rattle.events.proofs.Regular.{Regular, given-regular}
 use Rattle.events.proofs.Rows.{plays}
@@ -65,7 +66,7 @@ does-settle k s h =
     let none = none-other 5 (k .slots) (subst (λ (l : List Client). (i : ℕ) → Enabled (getD l i noSlot) → getD l i noSlot .report ≡ 5) (settled-slots k) h) in
     ap (λ (x : Master). x .state) (pick-true (isAborting k && not (some (isOther 5) (k .slots))) (withState k 1) k (rw (s, none)))
 
--- ---- the sequence is changed by nothing but a stop and an E.4
+-- ---- the sequence is changed by nothing but a stop, an E.4 and a load
 
 near : (m n : Master) → Near m n → n .sequence ≡ m .sequence
 near m n itself = refl
@@ -73,23 +74,24 @@ near m n (slotted i s) = refl
 
 changed :
     (m : Master) (e : Event) (n : Master) → Change m e n → (e ≡ stop → ⊥) → ((slot : ℕ) (msg out : List ℕ) → e ≡ indication slot msg out → ⊥)
-    → n .sequence ≡ m .sequence
+    → ((blocks : List ℕ) → e ≡ load blocks → ⊥) → n .sequence ≡ m .sequence
 unfolding ended
-changed m e n (rested x y) h k = near m n x
-changed m e n (moved x s a b) h k = near m _ x
-changed m e n (dropped x i y) h k = near m _ x
-changed m e n (broken x p c) h k = near m _ x
-changed m e n (recordStarts r) h k = refl
-changed m e n (recordWaits i) h k = refl
-changed m e n (recordEnds i) h k = absurd (h refl)
-changed m e n (recordHears slot msg out i l) h k = refl
-changed m e n (recordHearsLast slot msg out i l) h k = absurd (k slot msg out refl)
-changed m e n (recordTicks mm out i l t) h k = refl
-changed m e n (playStarts r) h k = refl
-changed m e n (playTicks mm out p l t) h k = refl
-changed m e n (playTicksLast mm out p) h k = refl
-changed m e n (playHears slot msg out p) h k = refl
-changed m e n (playHearsLast slot msg out s p r l) h k = refl
+changed m e n (rested x y) h k j = near m n x
+changed m e n (moved x s a b) h k j = near m _ x
+changed m e n (dropped x i y) h k j = near m _ x
+changed m e n (broken x p c) h k j = near m _ x
+changed m e n (recordStarts r) h k j = refl
+changed m e n (recordWaits i) h k j = refl
+changed m e n (recordEnds i) h k j = absurd (h refl)
+changed m e n (recordHears slot msg out i l) h k j = refl
+changed m e n (recordHearsLast slot msg out i l) h k j = absurd (k slot msg out refl)
+changed m e n (recordTicks mm out i l t) h k j = refl
+changed m e n (playStarts r) h k j = refl
+changed m e n (playTicks mm out p l t) h k j = refl
+changed m e n (playTicksLast mm out p) h k j = refl
+changed m e n (playHears slot msg out p) h k j = refl
+changed m e n (playHearsLast slot msg out s p r l) h k j = refl
+changed m e n (loaded blocks r z) h k j = absurd (j blocks refl)
 
 module _ (m : Master) (r : Regular m) (other : m .state ≡ 4 → ⊥) where
   still : isPlaying m ≡ false
@@ -270,7 +272,7 @@ module _ (m : Master) (r : Regular m) (other : m .state ≡ 4 → ⊥) where
   in-playback p = absurd (true≢false (sym p ∙ still))
 
   leaves : (e : Event) → Done m e → Leaves e
-  unfolding Leaves onCall offCall attachCall wantCall reportCall lostCall recordCall stopCall cancelCall indicationCall startCall abortCall clientAbortCall answerCall tickCall unheeded unmatched reported clients.lost Followed Ticked Recorded ended
+  unfolding Leaves onCall offCall attachCall wantCall reportCall lostCall recordCall stopCall cancelCall indicationCall startCall abortCall clientAbortCall answerCall tickCall storeCall loadCall unheeded unmatched reported clients.lost Followed Ticked Recorded ended
   leaves on z h = switches-on (eqb-true _ _ (not-false _ (passed-by m on z .allowed)))
   leaves off z h = switches-off (eqb-true _ _ (not-false _ (passed-by m off z .allowed)))
   leaves «record» z h = records (eqb-true _ _ (not-false _ (passed-by m «record» z .allowed)))
@@ -302,6 +304,8 @@ module _ (m : Master) (r : Regular m) (other : m .state ≡ 4 → ⊥) where
       go (s, inl (i, l)) = subst (Way m (tick mm out)) (sym s) (too-long mm out i l)
       go (s, inr (a, all)) = subst (Way m (tick mm out)) (sym s) (settles-tick mm out a (all-after (tick mm out) z all))
   leaves (answer slot msg out) z h = in-playback (plays m _ (passed-by m (answer slot msg out) z .goes))
+  leaves (store out) z h = absurd (h refl)
+  leaves (load blocks) z h = absurd (h refl)
 
   from-record : InRecording m → 1 ≡ m .state → ⊥
   from-record (inl q) s = omega arith
@@ -352,10 +356,20 @@ switching m = (
   either-way m (callOf m off) (SameRest m) (λ _. switched m (m .state)) (λ _. switched m 0),
 )
 
+storing : (m : Master) (out : List ℕ) → apply m (store out) .master ≡ m
+unfolding storeCall
+storing m out = either-way m (callOf m (store out)) (λ (n : Master). n ≡ m) (λ _. refl) (λ _. refl)
+
+loading : (m : Master) (blocks : List ℕ) → apply m (load blocks) .master ≡ withSequence m (apply m (load blocks) .master .sequence)
+unfolding loadCall
+loading m blocks = either-way m (callOf m (load blocks)) (λ (n : Master). n ≡ withSequence m (n .sequence)) (λ _. refl) (λ _. refl)
+
 pub ways : Ways
 ways = record {
   exactly = λ m g h e s. exactly m (given-regular m g) h e s;
-  keeps = λ m e h k.
-      either-way m (callOf m e) (λ (n : Master). n .sequence ≡ m .sequence) (λ _. refl) (λ z. changed m e _ (done-change m e z) h k);
+  keeps = λ m e h k j.
+      either-way m (callOf m e) (λ (n : Master). n .sequence ≡ m .sequence) (λ _. refl) (λ z. changed m e _ (done-change m e z) h k j);
   switching = switching;
+  storing = storing;
+  loading = loading;
 }

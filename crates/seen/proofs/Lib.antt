@@ -9,4 +9,5 @@ pub mod Leaving
 pub mod Serving
 pub mod Says
 pub mod Verifying
+pub mod Storing
 pub mod Telling

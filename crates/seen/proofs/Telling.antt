@@ -23,6 +23,7 @@ use Rattle.client.specs.Clients.{isTaken, isEnabled, isAwake, isNamed, isOther}
 use Rattle.sequence.specs.Sequence.{blankStep}
 use Rattle.sequence.specs.declared.Step.{Step}
 use Rattle.sequence.specs.declared.Sequence.{Sequence}
+use Rattle.store.specs.Loaded.{loadNumber}
 use Rattle.playback.specs.State.{blankSent}
 use Rattle.playback.specs.Pairs.{pairs}
 use Rattle.playback.specs.Answer.{isAnswerOf, findAnswered, answeredOf}
@@ -38,8 +39,9 @@ use Rattle.master.specs.Clients.{isReport, reportFrom, onCall, offCall, attachC
 use Rattle.master.specs.Recording.{unready, untimely, recordCall, stopCall, cancelCall, indicationCall}
 use Rattle.master.specs.Playback.{unheeded, unmatched, startCall, abortCall, clientAbortCall, answerCall}
 use Rattle.master.specs.Tick.{tickCall}
+use Rattle.master.specs.Storing.{unstored, storeCall, loadCall}
 use Rattle.master.specs.Messages.{isAbort, isIndication, isAnswer, executionIn, replyIn}
-use Rattle.events.specs.Events.{Event, on, off, «record», stop, cancel, start, abort, attach, enable, disable, report, lost, indication, clientAbort, tick, answer, callOf, apply, Given}
+use Rattle.events.specs.Events.{Event, on, off, «record», stop, cancel, start, abort, attach, enable, disable, report, lost, indication, clientAbort, tick, answer, store, load, callOf, apply, Given}
 use Rattle.events.proofs.Choices.{chosen-by}
 use Rattle.events.proofs.Calls.{number-is}
 use Rattle.events.proofs.Regular.{length-steps, given-regular}
@@ -49,6 +51,7 @@ use Rattle.seen.specs.Words.{nth, Enabled, InRecording}
 use Rattle.seen.specs.Numbers.{Not, tells, accepts, IsE4, IsE7, IsE3, IsReport, Answers, Absent, Occupied, SomeAwake, SomeEnabled, SomeUnready, numbersOf, Numbers}
 use Rattle.seen.proofs.Reading.{Fits, no, read-as, kind-read, indication-is, answer-is, statusAgain, failed-again}
 use Rattle.seen.proofs.Verifying.{verified}
+use Rattle.seen.proofs.Storing.{short-says, none-says}
 use Rattle.seen.proofs.Says.{Says, equal, below, at-most, negated, both-say, either-says, same-words, three-say, Tells, done, first, unless, unless-either, doubled, some-says, attached, enabled}
 
 -- ---- reports and messages
@@ -380,6 +383,18 @@ module _ (m : Master) where
       let i = not-false _ f in
       subst (λ (c : ℕ). Tells c (tells 15 (Not (Answers m slot msg)) accepts)) (number-so g slot msg i) (unless _ _ 15 (answers-say g slot msg i))))))
 
+  -- ---- storing and loading
+
+  tells-store : Given m → (out : List ℕ) → TellsOf (store out)
+  unfolding pick refusal storeCall unstored
+  tells-store g out =
+      first _ _ 1 _ _ (short-says m g out) (λ _. first _ _ 2 _ _ (not-in 1) (λ _. first _ _ 7 _ _ (none-says m g) (λ _. done)))
+
+  tells-load : (blocks : List ℕ) → TellsOf (load blocks)
+  unfolding pick refusal loadCall loadNumber
+  tells-load blocks =
+      first _ _ 2 _ _ (not-in 1) (λ _. first _ _ 16 _ _ (λ e. e, λ e. e) (λ _. first _ _ 17 _ _ (λ e. e, λ e. e) (λ _. done)))
+
   -- ---- every call
 
   tells-all : Given m → (e : Event) → TellsOf e
@@ -399,6 +414,8 @@ module _ (m : Master) where
   tells-all g (clientAbort slot msg) = tells-abort slot msg
   tells-all g (tick mm out) = tells-tick mm out
   tells-all g (answer slot msg out) = tells-answer g slot msg out
+  tells-all g (store out) = tells-store g out
+  tells-all g (load blocks) = tells-load blocks
 
 refused-pool :
     (m : Master) (slot name : ℕ) (pool : List ℕ) → apply m (attach slot name pool) .number ≡ 6

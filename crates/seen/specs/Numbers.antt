@@ -1,19 +1,22 @@
--- 01, "Numbers a call gives back": what each call gives each number for, in the words of the table and of the rules, and that it gives it exactly then.
+-- 01, "Numbers a call gives back", and 02, request 1: what each call gives each number for, in the words of the table and of the rules, and that it gives
+-- it exactly then.
 -- "Where several apply: 1, 4, 3, 2, then the rest in the order that the call's own rule gives."
-use Prim.Native.Nat.{ℕ, zero, suc, _/_, _%_, _≤_, _<_}
+use Prim.Native.Nat.{ℕ, zero, suc, _+_, _*_, _/_, _%_, _≤_, _<_}
 use mathlib.Core.Path.{_≡_}
 use mathlib.Core.Bool.{true}
 use mathlib.Core.Logic.{_⊎_, _↔_}
-use mathlib.Core.List.{List}
+use mathlib.Core.List.{List, [], _∷_}
 use lib.Bits.{bitAnd}
 use lib.ListN.{length, getD}
+use Rattle.octets.specs.Pick.{pick}
 use Rattle.pool.specs.Pool.{verdictOf}
 use Rattle.profile.specs.{Profile.trigger, Profile.hasState, declared.Profile.Profile}
-use Rattle.client.specs.{declared.Client.Client, declared.ClientRecord.ClientRecord}
+use Rattle.client.specs.{Records.isUsed, declared.Client.Client, declared.ClientRecord.ClientRecord}
 use Rattle.sequence.specs.{Sequence.blankStep, declared.Step.Step}
+use Rattle.store.specs.{Blocks.isDamaged, Loaded.isFaulty}
 use Rattle.playback.specs.State.{blankSent}
 use Rattle.master.specs.{declared.Master.Master, Call.slotAt}
-use Rattle.events.specs.Events.{Event, on, off, «record», stop, cancel, start, abort, attach, enable, disable, report, lost, indication, clientAbort, tick, answer, apply, Given, recordAt}
+use Rattle.events.specs.Events.{Event, on, off, «record», stop, cancel, start, abort, attach, enable, disable, report, lost, indication, clientAbort, tick, answer, store, load, apply, Given, recordAt}
 use Rattle.seen.specs.Words.{nth, Enabled, InRecording}
 
 abbrev pub Not : Type 0 → Type 0
@@ -152,6 +155,21 @@ module _ (m : Master) where
   abbrev pub verification : ℕ → Type 0
   verification = tells 7 (m .sequence .count ≡ 0) (slotsFrom 0 8 (tells 11 SomeUnlisted (tells 12 SomeIdle accepts)))
 
+  -- ---- storing
+
+  -- how many of these slots the sequence has a client record of
+  abbrev pub clientsAmong : List ℕ → ℕ
+  clientsAmong [] = 0
+  clientsAmong (slot ∷ slots) = pick (isUsed (recordAt m slot)) 1 0 + clientsAmong slots
+
+  -- 02, request 1: "blocks of 512 bytes": the first, one for each three client records, one for each 31 steps
+  abbrev pub blockCount : ℕ
+  blockCount = 1 + (clientsAmong (0 ∷ 1 ∷ 2 ∷ 3 ∷ 4 ∷ 5 ∷ 6 ∷ 7 ∷ []) + 2) / 3 + (m .sequence .count + 30) / 31
+
+  -- "1 lent output too short": no sequence has no block
+  abbrev pub TooFew : List ℕ → Type 0
+  TooFew out = Not (m .sequence .count ≡ 0) × (length out < 512 * blockCount)
+
   -- ---- the calls
 
   abbrev pub numbersOf : Event → ℕ → Type 0
@@ -180,6 +198,10 @@ module _ (m : Master) where
   -- "else 15"
   numbersOf (answer slot msg out) =
       tells 1 (length out < 8) (tells 4 (Not (IsE7 msg)) (tells 3 (Absent slot) (tells 2 (m .state ≡ 0) (tells 15 (Not (Answers slot msg)) accepts))))
+  -- "Both in ready only."; "with no sequence, storing gives 7"
+  numbersOf (store out) = tells 1 (TooFew out) (tells 2 (Not (m .state ≡ 1)) (tells 7 (m .sequence .count ≡ 0) accepts))
+  -- "16 the check of a whole lent block, 17 counts or fields out of range .., after number 2, in that order"
+  numbersOf (load blocks) = tells 2 (Not (m .state ≡ 1)) (tells 16 (isDamaged blocks ≡ true) (tells 17 (isFaulty blocks ≡ true) accepts))
 
 pub record Numbers : Type 0 where
   pub exactly : (m : Master) → Given m → (e : Event) (n : ℕ) → (apply m e .number ≡ n) ↔ numbersOf m e n

@@ -5,8 +5,8 @@ use mathlib.Core.Logic.{_↔_}
 use mathlib.Core.List.{List}
 use lib.ListN.{getD}
 use Rattle.recording.specs.{State.blankTaken, declared.Taken.Taken}
-use Rattle.master.specs.{declared.Master.Master, Call.slotAt}
-use Rattle.events.specs.Events.{Event, on, off, «record», stop, cancel, start, report, lost, indication, tick, apply, Given}
+use Rattle.master.specs.{declared.Master.Master, Call.slotAt, States.withSequence}
+use Rattle.events.specs.Events.{Event, on, off, «record», stop, cancel, start, report, lost, indication, tick, store, load, apply, Given}
 use Rattle.seen.specs.Words.{Done, nth, Enabled, InRecording}
 
 -- step i of the recording, counted from 0
@@ -68,9 +68,12 @@ pub record Ways : Type 0 where
   pub exactly :
       (m : Master) → Given m → (m .state ≡ 4 → ⊥) → (e : Event) (s : ℕ)
       → ((apply m e .master .state ≡ s) × (s ≡ m .state → ⊥)) ↔ (Done m e × Way m e s)
-  -- ".. and keeps the old sequence": only a stop and an E.4 can change the sequence
+  -- ".. and keeps the old sequence": only a stop, an E.4 and a load can change the sequence
   pub keeps :
       (m : Master) (e : Event) → (e ≡ stop → ⊥) → ((slot : ℕ) (msg out : List ℕ) → e ≡ indication slot msg out → ⊥)
-      → apply m e .master .sequence ≡ m .sequence
+      → ((blocks : List ℕ) → e ≡ load blocks → ⊥) → apply m e .master .sequence ≡ m .sequence
   -- on and off: "Neither changes anything else."
   pub switching : (m : Master) → SameRest m (apply m on .master) × SameRest m (apply m off .master)
+  -- 02, request 1: a store changes nothing, and a load nothing but the sequence
+  pub storing : (m : Master) (out : List ℕ) → apply m (store out) .master ≡ m
+  pub loading : (m : Master) (blocks : List ℕ) → apply m (load blocks) .master ≡ withSequence m (apply m (load blocks) .master .sequence)

@@ -1,11 +1,13 @@
 -- 01, "Messages" and "Clients and states": the answers that a call writes, as bytes; each is exactly eight bytes of what came in, and the rest is as it was.
+-- 02, request 1: the blocks that a store writes.
 use Prim.Native.Nat.{ℕ, _<_}
 use mathlib.Core.Path.{_≡_}
 use mathlib.Core.List.{List, [], _∷_}
 use lib.ListN.{getD, drop}
 use Rattle.sequence.specs.Sequence.{blankStep}
+use Rattle.store.specs.Stored.{storeBytes, storedIn}
 use Rattle.master.specs.{declared.Master.Master, Call.slotAt, Messages.executionIn, Recording.heard}
-use Rattle.events.specs.Events.{Event, on, off, «record», stop, cancel, start, abort, attach, enable, disable, report, lost, indication, clientAbort, tick, answer, apply, lentAfter, Given}
+use Rattle.events.specs.Events.{Event, on, off, «record», stop, cancel, start, abort, attach, enable, disable, report, lost, indication, clientAbort, answer, store, load, apply, lentAfter, Given}
 use Rattle.seen.specs.Words.{nth, Bytes, Done, InRecording}
 
 -- eight bytes stand before what the lent bytes held after their first eight
@@ -51,7 +53,12 @@ pub record Responses : Type 0 where
       (m : Master) (slot : ℕ) (msg out : List ℕ) → Given m → Bytes msg → Done m (indication slot msg out) → m .state ≡ 4 → (IsStep m slot (nth 2 msg) → ⊥)
       → Responds m slot msg out 0xFF × (apply m (indication slot msg out) .master ≡ m)
 
--- the calls that are lent nothing leave nothing; a tick writes frames
+-- 02, request 1: "Store one sequence as blocks of 512 bytes": it leaves them from the first lent byte on, and counts their bytes
+pub record Stores : Type 0 where
+  pub blocks : (m : Master) (out : List ℕ) → Done m (store out) → lentAfter m (store out) ≡ storedIn (m .sequence) out
+  pub counts : (m : Master) (out : List ℕ) → Done m (store out) → apply m (store out) .count ≡ storeBytes (m .sequence)
+
+-- the calls that are lent nothing leave nothing; a tick writes frames, and a store blocks
 pub record LentNothing : Type 0 where
   pub switching : (m : Master) → (lentAfter m on ≡ []) × (lentAfter m off ≡ [])
   pub recording : (m : Master) → (lentAfter m «record» ≡ []) × (lentAfter m stop ≡ []) × (lentAfter m cancel ≡ [])
@@ -60,9 +67,11 @@ pub record LentNothing : Type 0 where
   pub reporting : (m : Master) (slot number : ℕ) → lentAfter m (report slot number) ≡ []
   pub losing : (m : Master) (slot : ℕ) → lentAfter m (lost slot) ≡ []
   pub aborting : (m : Master) (slot : ℕ) (msg : List ℕ) → lentAfter m (clientAbort slot msg) ≡ []
+  pub loading : (m : Master) (blocks : List ℕ) → lentAfter m (load blocks) ≡ []
 
 pub record Written : Type 0 where
   pub orders : Orders
   pub acknowledges : Acknowledges
   pub responses : Responses
+  pub stores : Stores
   pub nothing : LentNothing

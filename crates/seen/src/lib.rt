@@ -7,7 +7,7 @@ ghost use Rattle.seen.specs.AllEnabled.{AllEnabled};
 ghost use Rattle.seen.specs.Blank.{BlankOutside};
 ghost use Rattle.seen.specs.Promises.{Promises};
 
-// The answers, as bytes.
+// The answers and the blocks that are written, as bytes.
 pub fn written()
     ensures { λ _. ⌜ Written ⌝ }
 {}

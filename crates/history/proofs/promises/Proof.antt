@@ -1,7 +1,8 @@
 -- `history::promises` meets its contract: four parts are what the other functions ensure, the others are the theorems.
 use borrow.Author.Needs.{needs}
 use Rattle.events.proofs.Regular.{given-regular}
-use Rattle.history.proofs.Runs.{traces, recorded, exact, others, happened, happened-last}
+use Rattle.history.proofs.Runs.{traces, recorded, exact, loaded, others, happened, happened-last}
+use Rattle.history.proofs.Blocks.{stored}
 use Rattle.history.proofs.promises.Statement.{statement}
 use Rattle.history.proofs.promises.Tie as tie
 
@@ -14,7 +15,9 @@ returns c = record {
   recorded = recorded;
   kept = λ events. traces events .kept;
   exact = exact;
+  loaded = loaded;
   others = others;
+  stored = stored;
   happened = happened;
   happened-last = happened-last;
   sound = λ m g. given-regular m g .recording .sound;

@@ -8,7 +8,8 @@ use Rattle.promises.proofs.promises.Tie as tie
 
 returns : tie.Need-returns
 returns c =
-    let at-plays-promises = c .before in
+    let at-store-promises = c .before in
+    let at-plays-promises = at-store-promises .before in
     let at-history-promises = at-plays-promises .before in
     let at-seen-promises = at-history-promises .before in
     let at-events-promises = at-seen-promises .before in
@@ -50,6 +51,7 @@ returns c =
       shown-examples = at-shown-examples .examples .ensures;
       recording = at-recording-promises .promises4 .ensures;
       recorded = at-history-promises .promises8 .ensures;
+      blocks = at-store-promises .promises10 .ensures;
       verification = at-playback-promises .promises5 .ensures .0;
       names = at-playback-promises .promises5 .ensures .1 .0;
       playback = at-plays-promises .promises9 .ensures;
@@ -67,4 +69,4 @@ pub promises-spec : {M : Type 1} → statement M
 promises-spec =
     tie.close
     (tie.spec
-    (λ c κs. search needs) (λ c κs. search needs) (λ c κs. search needs) (λ c κs. search needs) (λ c κs. search needs) (λ c κs. search needs) (λ c κs. search needs) (λ c κs. search needs) (λ c κs. search needs) (λ c κs. search needs) (λ c κs. search needs) (λ c κs. search needs) (λ c κs. search needs) (λ c κs. search needs) (λ c κs. search needs) (λ c κs. search needs) (λ c κs. search needs) (λ c κs. search needs) (λ c κs. search needs) (λ c κs. search needs) returns)
+    (λ c κs. search needs) (λ c κs. search needs) (λ c κs. search needs) (λ c κs. search needs) (λ c κs. search needs) (λ c κs. search needs) (λ c κs. search needs) (λ c κs. search needs) (λ c κs. search needs) (λ c κs. search needs) (λ c κs. search needs) (λ c κs. search needs) (λ c κs. search needs) (λ c κs. search needs) (λ c κs. search needs) (λ c κs. search needs) (λ c κs. search needs) (λ c κs. search needs) (λ c κs. search needs) (λ c κs. search needs) (λ c κs. search needs) returns)

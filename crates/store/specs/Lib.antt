@@ -1,0 +1,8 @@
+pub mod Below
+pub mod Blocks
+pub mod Fields
+pub mod Stored
+pub mod Loaded
+pub mod Taken
+pub mod Legal
+pub mod Promises
