@@ -13,7 +13,7 @@ use Rattle.sequence.specs.Sequence.{blankStep, stepsOf}
 use Rattle.sequence.specs.declared.Step.{Step}
 use Rattle.sequence.specs.declared.Sequence.{Sequence}
 use Rattle.store.specs.Loaded.{clientCount, stepCount, stepsTo, sequenceIn, loadNumber, loadedOf}
-use Rattle.store.proofs.Laws.{steps-length, every-step}
+use Rattle.store.proofs.Steps.{steps-length, every-step}
 use Rattle.master.specs.Storing.{loadCall}
 use Rattle.master.proofs.Calls.{passed}
 use Rattle.events.specs.Events.{Event, load, callOf, run}

@@ -2,42 +2,44 @@
 -- of the blocks.
 use Prim.Native.Nat.{ℕ, _+_, _-_, _*_, _≤_, _<_, min}
 use mathlib.Core.Path.{_≡_, refl, sym, ap, subst, _∙_}
-use mathlib.Core.Bool.{Bool, true, false, not, _&&_}
+use mathlib.Core.Bool.{Bool, true, false, not}
 use mathlib.Core.List.{List}
 use native.Mathlib.Nat.{min-eq-left}
 use native.Mathlib.Omega.{arith}
-use lib.Dec.{eqb, leb, ltb}
+use lib.Dec.{eqb}
 use lib.ListN.{length, take, replicate}
 use lib.Seq.{take-at}
-use borrow.Author.Tests.{leb-true, ltb-true, eqb-true, eq-eqb, ne-eqb, not-true, not-false}
+use borrow.Author.Tests.{eqb-true, eq-eqb, ne-eqb, not-true, not-false}
 use Rattle.octets.specs.{Pick.pick, Label.bytesAt, Label.labelAt, Numbers.completed, Numbers.checkWrong, Numbers.notStored}
-use Rattle.octets.proofs.Tests.{both}
 use Rattle.octets.proofs.Cells.{length-cells}
 use Rattle.pool.specs.{Ranges.labelRight, StageTwo.labelBytes, StageTwo.characterRight}
 use Rattle.arrays.specs.{Arrays.some, Arrays.padTo, Every.Every}
-use Rattle.arrays.proofs.Every.{none-passes}
+use Rattle.arrays.proofs.Every.{none-passes, every-weaken}
 use Rattle.arrays.proofs.Pad.{pad-take}
 use Rattle.sequence.specs.Sequence.{blankStep, lengthOf, stepsOf}
 use Rattle.sequence.specs.Sound.{isOf, SoundSequence}
 use Rattle.sequence.specs.declared.Step.{Step}
 use Rattle.sequence.specs.declared.Sequence.{Sequence}
-use Rattle.store.specs.Below.{everyBelow, someBelow}
+use Rattle.store.specs.Below.{someBelow}
 use Rattle.store.specs.Blocks.{isDamaged, blocksFor, clientPlace, stepPlace}
 use Rattle.store.specs.Fields.{stepRight}
 use Rattle.store.specs.Stored.{slotsIn, storeBytes}
 use Rattle.store.specs.Loaded.{byteAt, clientAt, clientRight, stepAt, clientCount, stepCount, clientSlot, stepSlot, stepsTo, sequenceIn}
 use Rattle.store.specs.Loaded.{countsRight, areClientsRight, areStepsRight, isNoSlotTwice, hasEachRecord, hasEachStep, reasonsFor, isFaulty, loadNumber, loadedOf}
-use Rattle.store.specs.Legal.{RightLabel, RightRecord, Legal}
+use Rattle.store.specs.Legal.{RightLabel, RightRecord, RightStep, Legal}
 use Rattle.store.specs.Promises.{Accepted}
-use Rattle.store.proofs.Laws.{every-below, found-below, every-row, pad-append, steps-length, every-step, some-step}
-use Rattle.store.proofs.Laws.{hasSlot, recordTo, records-length, record-none, record-some, record-used, slots-count}
+use Rattle.store.proofs.Below.{below-every, found-below}
+use Rattle.store.proofs.Lists.{every-row, pad-is}
+use Rattle.store.proofs.Fields.{count-parts, label-most, client-parts, step-parts}
+use Rattle.store.proofs.Steps.{steps-length, every-step, some-step}
+use Rattle.store.proofs.Records.{hasSlot, recordTo, records-length, record-none, record-some, record-used, records-count}
 
 -- ---- a label
 
 module _ (s : List ℕ) (i n : ℕ) (h : labelRight n ≡ true) where
   -- 63 cells have room for it
   fits : min n 63 ≡ n
-  fits = min-eq-left (leb-true n 63 (both (leb 1 n) (leb n 63) h .1))
+  fits = min-eq-left (label-most n h)
 
   label-bytes : labelBytes (labelAt s i n) ≡ bytesAt s i (min n 63)
   unfolding labelAt
@@ -50,7 +52,7 @@ module _ (s : List ℕ) (i n : ℕ) (h : labelRight n ≡ true) where
         length = rw fits h;
         cells =
             let e = length-cells (min n 63) (λ k. byteAt s (i + k)) in
-            sym (ap (padTo 0 63) label-bytes ∙ pad-append 0 63 (bytesAt s i (min n 63)) (omega arith) ∙ rw e);
+            sym (ap (padTo 0 63) label-bytes ∙ pad-is 0 63 (bytesAt s i (min n 63)) (omega arith) ∙ rw e);
       }
 
   right-characters : ((k : ℕ) → k < n → characterRight (byteAt s (i + k)) ≡ true) → Every (λ c. characterRight c ≡ true) (labelBytes (labelAt s i n))
@@ -61,39 +63,31 @@ module _ (s : List ℕ) (i n : ℕ) (h : labelRight n ≡ true) where
 -- ---- a client record
 
 module _ (s : List ℕ) (p : ℕ) (h : clientRight s p ≡ true) where
-  -- what is asked of it, one by one
-  client-parts :
-      (byteAt s p < 8) × (labelRight (byteAt s (p + 1)) ≡ true) × (labelRight (byteAt s (p + 2)) ≡ true)
-      × (everyBelow (byteAt s (p + 1)) (λ k. characterRight (byteAt s (p + 20 + k))) ≡ true)
-  unfolding clientRight
-  client-parts =
-      let slot = ltb (byteAt s p) 8 in
-      let version = labelRight (byteAt s (p + 1)) in
-      let configuration = labelRight (byteAt s (p + 2)) in
-      let three = both (slot && version && configuration) (everyBelow (byteAt s (p + 1)) (λ k. characterRight (byteAt s (p + 20 + k)))) h in
-      let two = both (slot && version) configuration (three .0) in
-      let one = both slot version (two .0) in
-      (ltb-true (byteAt s p) 8 (one .0), one .1, two .1, three .1)
-
   right-record : RightRecord (clientAt s p)
   unfolding clientAt
   right-record =
       let n : ℕ = byteAt s (p + 1) in
+      let parts = client-parts s p h in
       record {
         used = refl;
-        version = right-label s (p + 20) n (client-parts .1);
-        configuration = right-label s (p + 84) (byteAt s (p + 2)) (client-parts .2);
-        characters = right-characters s (p + 20) n (client-parts .1) (every-below (λ k. characterRight (byteAt s (p + 20 + k))) n (client-parts .3));
+        version = right-label s (p + 20) n (parts .1);
+        configuration = right-label s (p + 84) (byteAt s (p + 2)) (parts .2);
+        characters = right-characters s (p + 20) n (parts .1) (below-every (λ k. characterRight (byteAt s (p + 20 + k))) n (parts .3));
       }
 
 -- ---- a step
 
-right-slot : (x : Step) → stepRight x ≡ true → x .slot < 8
-right-slot x h =
-    let slot = ltb (x .slot) 8 in
-    let state = ltb (x .state) 64 in
-    let kind = leb (x .distance) 1 in
-    ltb-true (x .slot) 8 (both slot state (both (slot && state) kind (both (slot && state && kind) _ h .0) .0) .0)
+right-step : (x : Step) → stepRight x ≡ true → RightStep x
+unfolding pick
+right-step x h =
+    let parts = step-parts x h in
+    record {
+      slot = let l = parts .0 in omega arith;
+      state = let l = parts .1 in omega arith;
+      kind = parts .2;
+      ticks = λ z. rw z at (parts .3);
+      millimetres = λ z. rw z at (parts .3);
+    }
 
 -- ---- none of the reasons
 
@@ -144,17 +138,13 @@ module _ (s : List ℕ) where
 
   module _ (f : Faultless) where
     in-counts : (1 ≤ c) × (c ≤ 8) × (1 ≤ n) × (n ≤ 64)
-    in-counts =
-        let three = both (leb 1 c && leb c 8 && leb 1 n) (leb n 64) (f .counts) in
-        let two = both (leb 1 c && leb c 8) (leb 1 n) (three .0) in
-        let one = both (leb 1 c) (leb c 8) (two .0) in
-        (leb-true 1 c (one .0), leb-true c 8 (one .1), leb-true 1 n (two .1), leb-true n 64 (three .1))
+    in-counts = count-parts c n (f .counts)
 
     client-right : (k : ℕ) → k < c → clientRight s (clientPlace k) ≡ true
-    client-right = every-below (λ k. clientRight s (clientPlace k)) c (f .clients)
+    client-right = below-every (λ k. clientRight s (clientPlace k)) c (f .clients)
 
     step-right : (k : ℕ) → k < n → stepRight (stepAt s (stepPlace c k)) ≡ true
-    step-right = every-below (λ k. stepRight (stepAt s (stepPlace c k))) n (f .steps)
+    step-right = below-every (λ k. stepRight (stepAt s (stepPlace c k))) n (f .steps)
 
     abbrev q : Sequence
     q = sequenceIn s
@@ -185,18 +175,18 @@ module _ (s : List ℕ) where
             let j = found-below (λ j. eqb (clientSlot s j) x) c e in
             let z : clientSlot s (j .0) ≡ x = eqb-true _ _ (j .2) in
             has-step x ∙ ap (λ (y : ℕ). someBelow n (λ k. eqb (stepSlot s c k) y)) (sym z)
-            ∙ every-below (λ j. someBelow n (λ k. eqb (stepSlot s c k) (clientSlot s j))) c (f .each-step) (j .0) (j .1)
+            ∙ below-every (λ j. someBelow n (λ k. eqb (stepSlot s c k) (clientSlot s j))) c (f .each-step) (j .0) (j .1)
 
         back : some (isOf x) (stepsOf q) ≡ true → hasSlot s c x ≡ true
         back e =
             let k = found-below (λ k. eqb (stepSlot s c k) x) n (sym (has-step x) ∙ e) in
             let z : stepSlot s c (k .0) ≡ x = eqb-true _ _ (k .2) in
-            ap (hasSlot s c) (sym z) ∙ every-below (λ k. hasSlot s c (stepSlot s c k)) n (f .each-record) (k .0) (k .1)
+            ap (hasSlot s c) (sym z) ∙ below-every (λ k. hasSlot s c (stepSlot s c k)) n (f .each-record) (k .0) (k .1)
 
     has-record : (x : ℕ) → x < 8 → some (isOf x) (stepsOf q) ≡ true → RightRecord (recordTo s c x)
     has-record x h e =
         let j = record-some s c x h (as-steps x ∙ e) in
-        subst RightRecord (sym (j .2)) (right-record s (clientPlace (j .0)) (client-right (j .0) (j .1)))
+        subst RightRecord (sym (j .2 .1)) (right-record s (clientPlace (j .0)) (client-right (j .0) (j .1)))
 
     sound : SoundSequence q
     unfolding sequenceIn
@@ -206,7 +196,7 @@ module _ (s : List ℕ) where
           blank = ap (padTo blankStep 64) (sym steps-are);
           within =
               subst (Every (λ x. x .slot < 8)) (sym steps-are)
-              (every-step s c (λ x. x .slot < 8) n (λ k h. right-slot (stepAt s (stepPlace c k)) (step-right k h)));
+              (every-step s c (λ x. x .slot < 8) n (λ k h. step-parts (stepAt s (stepPlace c k)) (step-right k h) .0));
           slots = records-length s c;
           recorded = λ x h. record-used s c x h ∙ as-steps x;
           unrecorded = λ x h e. record-none s c x h (as-steps x ∙ e);
@@ -225,8 +215,8 @@ module _ (s : List ℕ) where
     clients-are : length (slotsIn (q .records)) ≡ c
     unfolding sequenceIn
     clients-are =
-        slots-count s c (λ j h. client-parts s (clientPlace j) (client-right j h) .0)
-        (λ j h. not-true _ (every-below (λ k. not (hasSlot s k (clientSlot s k))) c (f .once) j h))
+        records-count s c (λ j h. client-parts s (clientPlace j) (client-right j h) .0)
+        (λ j h. not-true _ (below-every (λ k. not (hasSlot s k (clientSlot s k))) c (f .once) j h))
 
     length-is : lengthOf q ≡ n
     unfolding sequenceIn
@@ -237,7 +227,7 @@ module _ (s : List ℕ) where
     blocks-are = let m = in-counts .2 in rw (clients-are, length-is, ne-eqb n 0 (λ e. omega arith)) (f .blocks)
 
     is-accepted : Accepted s q
-    is-accepted = record { legal = legal; clients = clients-are; steps = length-is; blocks = blocks-are }
+    is-accepted = record { legal = legal; fields = every-weaken right-step (stepsOf q) (legal .steps); clients = clients-are; steps = length-is; blocks = blocks-are }
 
 pub accepted : (s : List ℕ) → loadedOf s .number ≡ completed → Accepted s (loadedOf s .sequence)
 accepted s e = subst (Accepted s) (sym (said s e)) (is-accepted s (faultless s (no-fault s e)))

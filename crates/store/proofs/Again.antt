@@ -2,33 +2,37 @@
 use Prim.Native.Nat.{ℕ, zero, suc, _*_, _≤_, _<_}
 use native.Mathlib.Omega.{arith}
 use mathlib.Core.Path.{_≡_, refl, sym, ap, _∙_}
-use mathlib.Core.Bool.{Bool, true, false, not, _||_, or-true, or-false}
+use mathlib.Core.Bool.{Bool, true, false, not}
 use mathlib.Core.List.{List, [], map}
 use lib.Dec.{eqb}
-use lib.ListN.{length, take, getD, set, length-map, length-set, length-replicate, getD-replicate}
-use lib.Seq.{ext-getD, take-suc, take-length, getD-set-same, getD-set-other}
-use borrow.Author.Tests.{eq-eqb, ne-eqb, eqb-true, eqb-false, le-leb}
+use lib.ListN.{length, take, getD, length-map}
+use lib.Seq.{ext-getD, take-suc, take-length}
+use borrow.Author.Tests.{eq-eqb, ne-eqb, eqb-true, le-leb}
 use Rattle.octets.specs.{Pick.pick, Octets.bytesOf}
 use Rattle.octets.specs.Numbers.{completed}
-use Rattle.octets.proofs.{Laws.length-bytes, Tests.pick-true, Tests.pick-both}
+use Rattle.octets.proofs.{Laws.length-bytes}
 use Rattle.arrays.specs.Arrays.{some}
 use Rattle.arrays.proofs.Every.{every-at, every-map, every-weaken, pairs-at}
 use Rattle.client.specs.{Clients.slotCount, Records.blankRecord}
 use Rattle.sequence.specs.Sequence.{mostSteps, blankStep, lengthOf, stepsOf}
 use Rattle.sequence.specs.Sound.{isOf}
 use Rattle.sequence.specs.{declared.Step.Step, declared.Sequence.Sequence}
-use Rattle.store.specs.Below.{someBelow}
 use Rattle.store.specs.Blocks.{blockBytes, blocksFor, clientPlace, stepPlace}
 use Rattle.store.specs.Fields.{stepRight}
 use Rattle.store.specs.Stored.{clientBytes, stepBytes, slotsIn, clientsIn, contentsOf, storedOf, storeBytes}
 use Rattle.store.specs.Loaded.{clientAt, clientRight, clientBlank, stepAt, stepBlank, clientCount, stepCount, clientSlot, stepSlot, recordsTo, stepsTo, sequenceIn, countsRight, areClientsRight, areStepsRight, isFillBlank, isNoSlotTwice, hasEachRecord, hasEachStep, isFaulty, loadNumber, loadedOf}
 use Rattle.store.specs.declared.Loaded.{Loaded}
 use Rattle.store.specs.Legal.{Legal, FitsStep, FitsRecord, Fits}
-use Rattle.store.proofs.Counting.{every-below, none-below, some-below, at-some, map-at}
+use Rattle.store.proofs.Below.{every-below, none-below, some-below}
+use Rattle.store.proofs.Lists.{at-some, map-at}
 use Rattle.store.proofs.Stands.{At, at-left, at-right, at-number}
+use Rattle.store.proofs.Items.{client-length, step-length}
+use Rattle.store.proofs.Contents.{stores-some}
+use Rattle.store.proofs.Slots.{slots-few, slots-rising}
+use Rattle.store.proofs.Records.{hasSlot, recordTo, records-length, record-none, record-some}
+use Rattle.store.proofs.Recorded.{recordIn, Recorded, recorded, among, length-steps, step-among, some-slot}
+use Rattle.store.proofs.ReadBack.{length-label, slot-read, client-read, client-right, client-blank, step-read, step-blank}
 use Rattle.store.proofs.Places.{Things, Written, length-written, undamaged, head-stands, client-stands, step-stands, rest-blank}
-use Rattle.store.proofs.ReadBack.{length-client, slot-read, client-read, client-right, client-blank, length-step, step-read, step-blank}
-use Rattle.store.proofs.Used.{recordIn, Recorded, rising, few-slots, recorded, among, length-steps, step-among, some-slot}
 
 -- how many client records there are, the slot of the k-th of them, and the k-th step
 abbrev clients : Sequence → ℕ
@@ -48,14 +52,14 @@ module _ (q : Sequence) (L : Legal q) where
   client-things =
       record {
         count = length-map (slotsIn (q .records)) _;
-        wide = every-map _ _ (slotsIn (q .records)) (every-weaken (λ slot h. length-client slot (h .right)) (slotsIn (q .records)) (recorded q L));
+        wide = every-map _ _ (slotsIn (q .records)) (every-weaken (λ slot h. client-length slot (recordIn q slot) (length-label (h .right .version)) (length-label (h .right .configuration))) (slotsIn (q .records)) (recorded q L));
       }
 
   step-things : Things 16 (length (stepsOf q)) (map stepBytes (stepsOf q))
   step-things =
       record {
         count = length-map (stepsOf q) stepBytes;
-        wide = every-map stepBytes _ (stepsOf q) (every-weaken (λ t h. length-step t) (stepsOf q) (L .steps));
+        wide = every-map stepBytes _ (stepsOf q) (every-weaken (λ t h. step-length t) (stepsOf q) (L .steps));
       }
 
   written : (s : List ℕ) → s ≡ storedOf q → Written s (clients q) (length (stepsOf q)) (clientsIn (q .records)) (map stepBytes (stepsOf q))
@@ -64,10 +68,9 @@ module _ (q : Sequence) (L : Legal q) where
 
   -- the length of what is stored
   pub length-stored : length (storedOf q) ≡ storeBytes q
-  unfolding storeBytes pick
   length-stored =
-      let n : lengthOf q ≡ q .count = omega (arith, L .sound .few) in
-      length-written (written (storedOf q) refl) ∙ rw (length-steps q L, n, ne-eqb (q .count) 0 (omega (arith, L .some-step)))
+      let n : length (stepsOf q) ≡ lengthOf q = omega (arith, length-steps q L, L .sound .few) in
+      length-written (written (storedOf q) refl) ∙ rw n (stores-some q (λ z. omega (arith, L .some-step, L .sound .few)))
 
 module _ (q : Sequence) (L : Legal q) (F : Fits q) (s : List ℕ) (e : s ≡ storedOf q) where
   -- ---- the counts
@@ -76,7 +79,7 @@ module _ (q : Sequence) (L : Legal q) (F : Fits q) (s : List ℕ) (e : s ≡ sto
   few-steps = omega (arith, length-steps q L, L .sound .few)
 
   clients-read : clientCount s ≡ clients q
-  clients-read = at-number 4 (clients q) (at-left (bytesOf 4 (clients q)) (bytesOf 4 (length (stepsOf q))) (head-stands (written q L s e))) (omega (arith, few-slots q))
+  clients-read = at-number 4 (clients q) (at-left (bytesOf 4 (clients q)) (bytesOf 4 (length (stepsOf q))) (head-stands (written q L s e))) (omega (arith, slots-few (q .records)))
 
   steps-read : stepCount s ≡ length (stepsOf q)
   steps-read =
@@ -87,7 +90,7 @@ module _ (q : Sequence) (L : Legal q) (F : Fits q) (s : List ℕ) (e : s ≡ sto
   counts-right =
       rw (
         le-leb 1 (clients q) (some-slot q L),
-        le-leb (clients q) slotCount (few-slots q),
+        le-leb (clients q) slotCount (slots-few (q .records)),
         le-leb 1 (length (stepsOf q)) (omega (arith, length-steps q L, L .some-step)),
         le-leb (length (stepsOf q)) mostSteps few-steps,
       )
@@ -148,7 +151,7 @@ module _ (q : Sequence) (L : Legal q) (F : Fits q) (s : List ℕ) (e : s ≡ sto
   no-slot-twice =
       every-below _ (clients q) (λ k h.
       ap not (none-below (λ j. eqb (clientSlot s j) (clientSlot s k)) k (λ j l.
-      let less : slotOf q j < slotOf q k = pairs-at _<_ (slotsIn (q .records)) j k 0 l h (rising q) in
+      let less : slotOf q j < slotOf q k = pairs-at _<_ (slotsIn (q .records)) j k 0 l h (slots-rising (q .records)) in
       ne-eqb (clientSlot s j) (clientSlot s k) (omega (arith, slot-is j (omega arith), slot-is k h)))))
 
   each-record : hasEachRecord s (clients q) (length (stepsOf q)) ≡ true
@@ -183,37 +186,26 @@ module _ (q : Sequence) (L : Legal q) (F : Fits q) (s : List ℕ) (e : s ≡ sto
 
   -- ---- the sequence
 
-  length-records : (k : ℕ) → length (recordsTo s k) ≡ slotCount
-  length-records zero = length-replicate slotCount blankRecord
-  length-records (suc k) = length-set (recordsTo s k) (clientSlot s k) (clientAt s (clientPlace k)) ∙ length-records k
-
-  -- after k client records each slot has the sequence's record where it was among them, and a blank one where not
-  record-to : (k : ℕ) → k ≤ clients q → (i : ℕ) → i < slotCount → getD (recordsTo s k) i blankRecord ≡ pick (someBelow k (λ j. eqb (slotOf q j) i)) (recordIn q i) blankRecord
-  unfolding pick
-  record-to zero h i b = getD-replicate slotCount i blankRecord blankRecord b
-  record-to (suc k) h i b = rw (slot-is k h, client-is k h) (go (eqb (slotOf q k) i) refl (record-to k (omega arith) i b))
-    where
-      go :
-          (t : Bool) → eqb (slotOf q k) i ≡ t → getD (recordsTo s k) i blankRecord ≡ pick (someBelow k (λ j. eqb (slotOf q j) i)) (recordIn q i) blankRecord
-          → getD (set (recordsTo s k) (slotOf q k) (recordIn q (slotOf q k))) i blankRecord ≡ pick (someBelow k (λ j. eqb (slotOf q j) i) || t) (recordIn q i) blankRecord
-      go true t earlier =
-          let same : slotOf q k ≡ i = eqb-true _ _ t in
-          rw (same, or-true (someBelow k (λ j. eqb (slotOf q j) i))) (getD-set-same (recordsTo s k) i (recordIn q i) blankRecord (omega (arith, length-records k)))
-      go false t earlier =
-          rw (or-false (someBelow k (λ j. eqb (slotOf q j) i)))
-          (getD-set-other (recordsTo s k) (slotOf q k) i (recordIn q (slotOf q k)) blankRecord (λ m. eqb-false _ _ t (sym m)) ∙ earlier)
+  -- a slot that a client record has
+  record-back : (i : ℕ) → i < slotCount → hasSlot s (clients q) i ≡ true → recordTo s (clients q) i ≡ recordIn q i
+  record-back i b e =
+      let m = record-some s (clients q) i b e in
+      m .2 .1 ∙ client-is (m .0) (m .1) ∙ ap (recordIn q) (sym (slot-is (m .0) (m .1)) ∙ m .2 .0)
 
   records-back : recordsTo s (clients q) ≡ q .records
   records-back =
-      ext-getD blankRecord (recordsTo s (clients q)) (q .records) (length-records (clients q) ∙ sym (L .sound .slots)) (λ i h.
-      let b : i < slotCount = omega (arith, length-records (clients q)) in
-      record-to (clients q) (omega arith) i b ∙ go i b (some (isOf i) (stepsOf q)) refl)
+      ext-getD blankRecord (recordsTo s (clients q)) (q .records) (records-length s (clients q) ∙ sym (L .sound .slots)) (λ i h.
+      let b : i < slotCount = omega (arith, records-length s (clients q)) in
+      go i b (some (isOf i) (stepsOf q)) refl (hasSlot s (clients q) i) refl)
     where
-      go : (i : ℕ) → i < slotCount → (t : Bool) → some (isOf i) (stepsOf q) ≡ t → pick (someBelow (clients q) (λ j. eqb (slotOf q j) i)) (recordIn q i) blankRecord ≡ recordIn q i
-      go i b true t =
+      go :
+          (i : ℕ) → i < slotCount → (t : Bool) → some (isOf i) (stepsOf q) ≡ t → (a : Bool) → hasSlot s (clients q) i ≡ a
+          → recordTo s (clients q) i ≡ recordIn q i
+      go i b true t a e =
           let m = among q L i b t in
-          pick-true _ _ _ (some-below (λ j. eqb (slotOf q j) i) (clients q) (m .0) (m .1) (eq-eqb _ _ (m .2)))
-      go i b false t = pick-both (λ r. r ≡ recordIn q i) (someBelow (clients q) (λ j. eqb (slotOf q j) i)) refl (sym (L .sound .unrecorded i b t))
+          record-back i b (some-below (λ j. eqb (clientSlot s j) i) (clients q) (m .0) (m .1) (eq-eqb _ _ (slot-is (m .0) (m .1) ∙ m .2)))
+      go i b false t true e = record-back i b e
+      go i b false t false e = record-none s (clients q) i b e ∙ sym (L .sound .unrecorded i b t)
 
   steps-to : (k : ℕ) → k ≤ length (stepsOf q) → stepsTo s (clients q) k ≡ take k (stepsOf q)
   steps-to zero h = refl

@@ -5,30 +5,29 @@ use mathlib.Core.Bool.{Bool, true, false, not}
 use mathlib.Core.List.{List}
 use native.Mathlib.Omega.{arith}
 use lib.Dec.{eqb}
-use lib.ListN.{length}
+use lib.ListN.{length, drop}
+use lib.Seq.{getD-take, getD-drop}
 use borrow.Author.Tests.{eqb-true, eqb-false, not-false}
 use Rattle.octets.specs.{Pick.pick, Octets.numberAt, Numbers.checkWrong}
 use Rattle.octets.proofs.Laws.{Bytes, number-fits}
 use Rattle.store.specs.Blocks.{blockBytes, blockAt, wordAt, sumAt, checkAt, isIntact, isDamaged}
 use Rattle.store.specs.Loaded.{loadNumber, loadedOf}
 use Rattle.store.specs.Promises.{word, Altered}
-use Rattle.store.proofs.Laws.{none-below, some-below, number-within, same-sum, sum-but}
+use Rattle.store.proofs.Below.{below-none, some-below}
+use Rattle.store.proofs.Checks.{Agree, word-moved, check-moved, same-sum, sum-but}
 
 -- ---- a block in its place
 
 module _ (s : List ℕ) (b : ℕ) where
-  word-in : (k : ℕ) → k < 128 → wordAt (blockAt s b) 0 k ≡ wordAt s (512 * b) k
-  word-in k h =
-      let e : 0 + 4 * k ≡ 4 * k = omega arith in
-      rw e (number-within 4 s 512 (512 * b) (4 * k) (omega arith))
+  alike : Agree (blockAt s b) s 0 (512 * b) 512
+  alike k h = let e : 0 + k ≡ k = omega arith in rw e (getD-take 512 (drop (512 * b) s) k 0 h ∙ getD-drop (512 * b) s k 0)
 
-  -- its check, by the words of the whole
-  check-in : (number : ℕ) → checkAt (blockAt s b) 0 number ≡ (sumAt s (512 * b) 127 + number) % 4294967296
-  unfolding checkAt
-  check-in number = rw (same-sum (blockAt s b) s 0 (512 * b) 127 (λ k h. word-in k (omega arith)))
-
+  -- its check is right, by the words of the whole
   right : isIntact (b + 1) (blockAt s b) ≡ true → wordAt s (512 * b) 127 ≡ (sumAt s (512 * b) 127 + (b + 1)) % 4294967296
-  right e = sym (word-in 127 (omega arith)) ∙ eqb-true _ _ e ∙ check-in (b + 1)
+  unfolding checkAt
+  right e =
+      sym (word-moved (blockAt s b) s 0 (512 * b) 128 127 alike (omega arith)) ∙ eqb-true _ _ e
+      ∙ check-moved (blockAt s b) s 0 (512 * b) (b + 1) (λ k h. alike k (omega arith))
 
 -- ---- bytes that differ in word k of block b, and in no other word of it
 
@@ -80,7 +79,7 @@ module _ (s : List ℕ) where
 
   all-intact : isDamaged s ≡ false → (b : ℕ) → b < length s / blockBytes → isIntact (b + 1) (blockAt s b) ≡ true
   unfolding isDamaged
-  all-intact e b h = not-false _ (none-below (λ j. not (isIntact (j + 1) (blockAt s j))) (length s / blockBytes) e b h)
+  all-intact e b h = not-false _ (below-none (λ j. not (isIntact (j + 1) (blockAt s j))) (length s / blockBytes) e b h)
 
   one-broken : (b : ℕ) → b < length s / blockBytes → not (isIntact (b + 1) (blockAt s b)) ≡ true → isDamaged s ≡ true
   unfolding isDamaged

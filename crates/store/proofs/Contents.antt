@@ -1,31 +1,49 @@
--- What a block holds, by its number: the counts, client records or steps, and where in the sequence they start.
-use Prim.Native.Nat.{ℕ, zero, suc, _+_, _-_, _*_, _≤_, _<_, min}
+-- What each block holds and how much of it that is: the counts, client records or steps, and where in the sequence they start.
+use Prim.Native.Nat.{ℕ, suc, _+_, _-_, _*_, _≤_, _<_, min}
 use native.Mathlib.Omega.{arith}
-use mathlib.Core.Path.{_≡_, refl, sym, ap, _∙_}
-use mathlib.Core.List.{List, [], _∷_, map}
+use mathlib.Core.Path.{_≡_, sym, ap, _∙_}
+use mathlib.Core.List.{List, [], _∷_, _++_, map}
 use lib.Dec.{eqb, leb}
-use lib.ListN.{length, getD, take, drop, length-append, length-take, length-drop, length-map, List·getD-append}
-use lib.Seq.{sets, getD-append-add, drop-drop, take-take}
-use borrow.Author.Tests.{eq-eqb, ne-eqb}
+use lib.ListN.{length, getD, take, drop, length-append, length-take, length-map, List·getD-append}
+use lib.Seq.{sets, getD-append-add}
+use borrow.Author.Tests.{eq-eqb, ne-eqb, le-leb, lt-leb}
 use Rattle.octets.specs.Octets.{bytesOf}
 use Rattle.octets.proofs.Laws.{length-bytes}
 use Rattle.octets.proofs.Tests.{pick-true, pick-false, pick-both}
 use Rattle.arrays.proofs.Every.{map-take}
-use Rattle.arrays.proofs.Most.{most}
 use Rattle.sequence.specs.Sequence.{lengthOf, stepsOf}
 use Rattle.sequence.specs.declared.Sequence.{Sequence}
 use Rattle.store.specs.Blocks.{clientBlocks, stepBlocks, blocksFor, usedBytes}
 use Rattle.store.specs.Stored.{slotsIn, clientsIn, stepBytes, headOf, joined, groups, contentsOf, storeBytes}
+use Rattle.store.proofs.Lists.{part-most, part-take}
 use Rattle.store.proofs.Sets.{then-sets}
-use Rattle.store.proofs.Groups.{used-head}
+use Rattle.store.proofs.Groups.{length-groups, group-at}
 
--- ---- numbers
+-- ---- how much of a block is used
 
 pub used-fits : (c n b : ℕ) → usedBytes c n b ≤ 508
 unfolding usedBytes
 used-fits c n b =
     pick-both (λ k. k ≤ 508) (eqb b 0) (omega arith) (pick-both (λ k. k ≤ 508) (leb b (clientBlocks c)) (omega arith) (omega arith))
 
+pub used-head : (c n b : ℕ) → b ≡ 0 → 8 ≡ usedBytes c n b
+unfolding usedBytes
+used-head c n b e = rw (pick-true {X = ℕ} (eqb b 0) 8 _ (eq-eqb b 0 e))
+
+module _ (c n b r m : ℕ) (h : 1 ≤ b) (q : m ≡ clientBlocks c) where
+  pub used-clients : b ≤ m → r ≡ min (c - 3 * (b - 1)) 3 → 148 * r ≡ usedBytes c n b
+  unfolding usedBytes
+  used-clients k e =
+      let s : r ≡ min 3 (c - 3 * (b - 1)) = omega arith in
+      rw (pick-false {X = ℕ} (eqb b 0) 8 _ (ne-eqb b 0 (λ z. omega arith)), ← q, pick-true (leb b m) (148 * min 3 (c - 3 * (b - 1))) _ (le-leb b m k), s)
+
+  pub used-steps : m < b → r ≡ min (n - 31 * (b - 1 - m)) 31 → 16 * r ≡ usedBytes c n b
+  unfolding usedBytes
+  used-steps k e =
+      let s : r ≡ min 31 (n - 31 * (b - 1 - m)) = omega (arith, e) in
+      rw (pick-false {X = ℕ} (eqb b 0) 8 _ (ne-eqb b 0 (λ z. omega arith)), ← q, pick-false (leb b m) (148 * min 3 (c - 3 * (b - 1))) _ (lt-leb b m k), s)
+
+-- block b is there, and so are the client records or the steps that it holds
 module _ (c n b : ℕ) (h : b < blocksFor c n) where
   pub block-room : c ≤ 8 → n ≤ 64 → 512 * b + 512 ≤ 4096
   block-room few most = omega arith
@@ -37,8 +55,31 @@ module _ (c n b : ℕ) (h : b < blocksFor c n) where
     pub steps-room : m < b → r ≡ min (n - 31 * (b - 1 - m)) 31 → (r ≤ 31) × (31 * (b - 1 - m) + r ≤ n)
     steps-room g q = (omega arith, omega arith)
 
--- how many bytes there are to store
+-- ---- blocks of the client records cs and the steps ns
+
+abbrev pub contents : ℕ → ℕ → List (List ℕ) → List (List ℕ) → List (List ℕ)
+contents c n cs ns = headOf c n ∷ groups (clientBlocks c) 3 cs ++ groups (stepBlocks n) 31 ns
+
+pub length-head : (c n : ℕ) → length (headOf c n) ≡ 8
+length-head c n = simp (length-append, length-bytes)
+
+module _ (c n : ℕ) (cs ns : List (List ℕ)) where
+  pub length-contents : length (contents c n cs ns) ≡ blocksFor c n
+  length-contents =
+      omega (arith, length-append (groups (clientBlocks c) 3 cs) (groups (stepBlocks n) 31 ns), length-groups 3 (clientBlocks c) cs, length-groups 31 (stepBlocks n) ns)
+
+  pub client-content : (j : ℕ) → j < clientBlocks c → getD (contents c n cs ns) (suc j) [] ≡ getD (groups (clientBlocks c) 3 cs) j []
+  client-content j h = List·getD-append (groups (clientBlocks c) 3 cs) (groups (stepBlocks n) 31 ns) [] j (omega (arith, length-groups 3 (clientBlocks c) cs))
+
+  pub step-content : (j : ℕ) → getD (contents c n cs ns) (suc (clientBlocks c + j)) [] ≡ getD (groups (stepBlocks n) 31 ns) j []
+  step-content j =
+      ap (λ (i : ℕ). getD (groups (clientBlocks c) 3 cs ++ groups (stepBlocks n) 31 ns) (i + j) []) (sym (length-groups 3 (clientBlocks c) cs))
+      ∙ getD-append-add (groups (clientBlocks c) 3 cs) (groups (stepBlocks n) 31 ns) j []
+
+-- ---- a sequence's blocks
+
 module _ (q : Sequence) where
+  -- how many bytes there are to store
   pub stores-none : lengthOf q ≡ 0 → 0 ≡ storeBytes q
   unfolding storeBytes
   stores-none e = sym (pick-true {X = ℕ} (eqb (lengthOf q) 0) 0 _ (eq-eqb (lengthOf q) 0 e))
@@ -47,90 +88,59 @@ module _ (q : Sequence) where
   unfolding storeBytes
   stores-some f = sym (pick-false {X = ℕ} (eqb (lengthOf q) 0) 0 _ (ne-eqb (lengthOf q) 0 f))
 
--- ---- groups
+  abbrev count : ℕ
+  count = length (slotsIn (q .records))
 
-pub length-groups : (m n : ℕ) (l : List (List ℕ)) → length (groups m n l) ≡ m
-length-groups zero n l = refl
-length-groups (suc m) n l = ap suc (length-groups m n (drop n l))
+  abbrev all-clients : List (List ℕ)
+  all-clients = clientsIn (q .records)
 
-pub groups-at : (m n : ℕ) (l : List (List ℕ)) (b : ℕ) → b < m → getD (groups m n l) b [] ≡ joined (take n (drop (n * b) l))
-groups-at zero n l b h = absurd (omega arith)
-groups-at (suc m) n l zero h = let e : 0 ≡ n * 0 = omega arith in ap (λ (k : ℕ). joined (take n (drop k l))) e
-groups-at (suc m) n l (suc b) h =
-    let e : n + n * b ≡ n * suc b = omega arith in
-    groups-at m n (drop n l) b (omega arith) ∙ ap (λ (k : List (List ℕ)). joined (take n k)) (drop-drop (n * b) n l ∙ ap (λ (k : ℕ). drop k l) e)
+  abbrev all-steps : List (List ℕ)
+  all-steps = map stepBytes (stepsOf q)
 
--- a part of a list that reaches no further than the list
-pub part-most : {X : Type 0} (l : List X) (n k c r : ℕ) → length l ≡ c → r ≡ min (c - k) n → take n (drop k l) ≡ take r (drop k l)
-part-most l n k c r e q = most (drop k l) n (c - k) r (length-drop k l ∙ ap (λ (m : ℕ). m - k) e) (omega arith)
+  module _ (long : length (q .steps) ≡ 64) where
+    pub steps-count : length (stepsOf q) ≡ lengthOf q
+    unfolding stepsOf
+    steps-count = length-take (q .count) (q .steps) ∙ ap (min (q .count)) long
 
--- a part of a list's first elements
-pub part-take : {X : Type 0} (n k m : ℕ) (l : List X) → k + n ≤ m → take n (drop k (take m l)) ≡ take n (drop k l)
-part-take n zero m l h = take-take n m l (omega arith)
-part-take n (suc k) zero l h = absurd (omega arith)
-part-take n (suc k) (suc m) [] h = refl
-part-take n (suc k) (suc m) (x ∷ l) h = part-take n k m l (omega arith)
-
--- ---- the contents of a sequence's blocks
-
-module _ (q : Sequence) (long : length (q .steps) ≡ 64) where
-  pub steps-count : length (stepsOf q) ≡ lengthOf q
-  unfolding stepsOf
-  steps-count = length-take (q .count) (q .steps) ∙ ap (min (q .count)) long
-
-  pub contents-count : length (contentsOf q) ≡ blocksFor (length (slotsIn (q .records))) (lengthOf q)
-  unfolding contentsOf
-  contents-count =
-      omega (
-        arith,
-        length-append (groups (clientBlocks (length (slotsIn (q .records)))) 3 (clientsIn (q .records))) (groups (stepBlocks (length (stepsOf q))) 31 (map stepBytes (stepsOf q))),
-        length-groups (clientBlocks (length (slotsIn (q .records)))) 3 (clientsIn (q .records)),
-        length-groups (stepBlocks (length (stepsOf q))) 31 (map stepBytes (stepsOf q)),
-        steps-count,
-      )
-
-  pub head-length : (b : ℕ) → b ≡ 0 → length (getD (contentsOf q) b []) ≡ usedBytes (length (slotsIn (q .records))) (lengthOf q) b
-  unfolding contentsOf
-  head-length b e =
-      let n : length (headOf (length (slotsIn (q .records))) (length (stepsOf q))) ≡ 8 = simp (length-append, length-bytes) in
-      ap (λ (k : ℕ). length (getD (contentsOf q) k [])) e ∙ n ∙ used-head (length (slotsIn (q .records))) (lengthOf q) b e
-
-  -- block b, of c clients and n steps
-  module _ (c n b : ℕ) (clients : c ≡ length (slotsIn (q .records))) (steps : n ≡ lengthOf q) where
-    pub head-stored : (out : List ℕ) → b ≡ 0 → sets (sets out 0 (bytesOf 4 c)) 4 (bytesOf 4 n) ≡ sets out (512 * b) (getD (contentsOf q) b [])
+    pub contents-count : length (contentsOf q) ≡ blocksFor (length (slotsIn (q .records))) (lengthOf q)
     unfolding contentsOf
-    head-stored out e =
-        rw (e, ← clients, steps-count, ← steps) (sym (then-sets out 0 4 (bytesOf 4 c) (bytesOf 4 n) (length-bytes 4 c)))
+    contents-count = length-contents count (length (stepsOf q)) all-clients all-steps ∙ ap (blocksFor count) steps-count
 
-    module _ (m r : ℕ) (e : m ≡ clientBlocks c) where
-      pub content-clients : 1 ≤ b → b ≤ m → r ≡ min (c - 3 * (b - 1)) 3 → getD (contentsOf q) b [] ≡ joined (take r (drop (3 * (b - 1)) (clientsIn (q .records))))
+    pub head-length : (b : ℕ) → b ≡ 0 → length (getD (contentsOf q) b []) ≡ usedBytes (length (slotsIn (q .records))) (lengthOf q) b
+    unfolding contentsOf
+    head-length b e = ap (λ (k : ℕ). length (getD (contentsOf q) k [])) e ∙ length-head count (length (stepsOf q)) ∙ used-head count (lengthOf q) b e
+
+    -- block b, of c clients and n steps
+    module _ (c n b : ℕ) (clients : c ≡ length (slotsIn (q .records))) (steps : n ≡ lengthOf q) where
+      pub head-stored : (out : List ℕ) → b ≡ 0 → sets (sets out 0 (bytesOf 4 c)) 4 (bytesOf 4 n) ≡ sets out (512 * b) (getD (contentsOf q) b [])
       unfolding contentsOf
-      content-clients f g k =
-          let all = clientsIn (q .records) in
-          let blocks = clientBlocks (length (slotsIn (q .records))) in
-          let s : b ≡ suc (b - 1) = omega arith in
-          let less : b - 1 < blocks = omega arith in
-          let within : b - 1 < length (groups blocks 3 all) = rw (length-groups blocks 3 all) less in
-          ap (λ (j : ℕ). getD (contentsOf q) j []) s
-          ∙ List·getD-append (groups blocks 3 all) (groups (stepBlocks (length (stepsOf q))) 31 (map stepBytes (stepsOf q))) [] (b - 1) within
-          ∙ groups-at blocks 3 all (b - 1) less
-          ∙ ap joined (part-most all 3 (3 * (b - 1)) c r (length-map (slotsIn (q .records)) _ ∙ sym clients) k)
+      head-stored out e =
+          rw (e, ← clients, steps-count, ← steps) (sym (then-sets out 0 4 (bytesOf 4 c) (bytesOf 4 n) (length-bytes 4 c)))
 
-      pub content-steps :
-          m < b → b < blocksFor c n → r ≡ min (n - 31 * (b - 1 - m)) 31
-          → getD (contentsOf q) b [] ≡ joined (take r (drop (31 * (b - 1 - m)) (map stepBytes (q .steps))))
-      unfolding contentsOf stepsOf
-      content-steps g h k =
-          let first = groups (clientBlocks (length (slotsIn (q .records)))) 3 (clientsIn (q .records)) in
-          let blocks = stepBlocks (length (stepsOf q)) in
-          let all = map stepBytes (stepsOf q) in
-          let s : b ≡ suc (length first + (b - 1 - m)) = omega (arith, length-groups (clientBlocks (length (slotsIn (q .records)))) 3 (clientsIn (q .records))) in
-          let less : b - 1 - m < blocks = omega (arith, steps-count) in
-          let room : 31 * (b - 1 - m) + r ≤ q .count = omega (arith, steps-room c n b h m r e g k .1) in
-          ap (λ (j : ℕ). getD (contentsOf q) j []) s
-          ∙ getD-append-add first (groups blocks 31 all) (b - 1 - m) []
-          ∙ groups-at blocks 31 all (b - 1 - m) less
-          ∙ ap joined
-          (part-most all 31 (31 * (b - 1 - m)) n r (length-map (stepsOf q) stepBytes ∙ steps-count ∙ sym steps) k
-          ∙ ap (λ (l : List (List ℕ)). take r (drop (31 * (b - 1 - m)) l)) (map-take stepBytes (q .count) (q .steps))
-          ∙ part-take r (31 * (b - 1 - m)) (q .count) (map stepBytes (q .steps)) room)
+      module _ (m r : ℕ) (e : m ≡ clientBlocks c) where
+        pub content-clients : 1 ≤ b → b ≤ m → r ≡ min (c - 3 * (b - 1)) 3 → getD (contentsOf q) b [] ≡ joined (take r (drop (3 * (b - 1)) (clientsIn (q .records))))
+        unfolding contentsOf
+        content-clients f g k =
+            let s : b ≡ suc (b - 1) = omega arith in
+            let less : b - 1 < clientBlocks count = omega arith in
+            ap (λ (j : ℕ). getD (contentsOf q) j []) s
+            ∙ client-content count (length (stepsOf q)) all-clients all-steps (b - 1) less
+            ∙ group-at 3 (clientBlocks count) all-clients (b - 1) less
+            ∙ ap joined (part-most all-clients 3 (3 * (b - 1)) c r (length-map (slotsIn (q .records)) _ ∙ sym clients) k)
+
+        pub content-steps :
+            m < b → b < blocksFor c n → r ≡ min (n - 31 * (b - 1 - m)) 31
+            → getD (contentsOf q) b [] ≡ joined (take r (drop (31 * (b - 1 - m)) (map stepBytes (q .steps))))
+        unfolding contentsOf stepsOf
+        content-steps g h k =
+            let j : ℕ = b - 1 - m in
+            let s : b ≡ suc (clientBlocks count + j) = omega arith in
+            let less : j < stepBlocks (length (stepsOf q)) = omega (arith, steps-count) in
+            let room : 31 * j + r ≤ q .count = omega (arith, steps-room c n b h m r e g k .1) in
+            ap (λ (i : ℕ). getD (contentsOf q) i []) s
+            ∙ step-content count (length (stepsOf q)) all-clients all-steps j
+            ∙ group-at 31 (stepBlocks (length (stepsOf q))) all-steps j less
+            ∙ ap joined
+            (part-most all-steps 31 (31 * j) n r (length-map (stepsOf q) stepBytes ∙ steps-count ∙ sym steps) k
+            ∙ ap (λ (l : List (List ℕ)). take r (drop (31 * j) l)) (map-take stepBytes (q .count) (q .steps))
+            ∙ part-take r (31 * j) (q .count) (map stepBytes (q .steps)) room)

@@ -1,101 +1,23 @@
--- Laws of blocks: how much of each is used, the bytes of a client record and of a step, and items of one width one after the other.
-use Prim.Native.Nat.{ℕ, _+_, _-_, _*_, _≤_, _<_, min}
+-- Laws of items of one width: one after the other, as they are stored and as they stand, and so many of them to a block.
+use Prim.Native.Nat.{ℕ, zero, suc, _+_, _-_, _*_, _≤_, _<_, min}
+use native.Mathlib.Nat.{mul-zero, mul-suc, add-zero}
 use native.Mathlib.Numerals.{add-one}
 use native.Mathlib.Omega.{arith}
 use mathlib.Core.Path.{_≡_, refl, sym, ap, _∙_}
-use mathlib.Core.List.{List, [], _∷_, _++_, map, append-nil, append-assoc}
-use lib.Dec.{eqb, leb}
-use lib.ListN.{length, getD, take, drop, set, length-append, length-drop, length-map, drop-of-length-le, List·getD-map}
-use lib.Seq.{sets, drop-cons, take-suc, length-take-le, getD-take, getD-drop}
-use borrow.Author.Tests.{eq-eqb, ne-eqb, le-leb, lt-leb}
-use Rattle.octets.specs.Octets.{bytesOf}
-use Rattle.octets.proofs.Laws.{length-bytes}
-use Rattle.octets.proofs.Tests.{pick-true, pick-false}
-use Rattle.arrays.proofs.Pad.{any-default}
-use Rattle.client.specs.declared.ClientRecord.{ClientRecord}
-use Rattle.sequence.specs.declared.Step.{Step}
-use Rattle.store.specs.Blocks.{clientBlocks, usedBytes}
-use Rattle.store.specs.Stored.{clientBytes, stepBytes, joined}
+use mathlib.Core.List.{List, [], _∷_, _++_, append-nil, append-assoc}
+use lib.ListN.{length, getD, take, drop, length-append, length-take, length-drop, drop-of-length-le}
+use lib.Seq.{sets, drop-cons, drop-drop, take-suc, getD-take, getD-drop}
+use Rattle.arrays.specs.Every.{Every}
+use Rattle.store.specs.Stored.{joined, groups}
+use Rattle.store.proofs.Lists.{every-take, every-drop}
 use Rattle.store.proofs.Sets.{then-sets}
+use Rattle.store.proofs.Stands.{At, at-left, at-right}
 
--- ---- how much of a block is used
-
-pub used-head : (c n b : ℕ) → b ≡ 0 → 8 ≡ usedBytes c n b
-unfolding usedBytes
-used-head c n b e = rw (pick-true {X = ℕ} (eqb b 0) 8 _ (eq-eqb b 0 e))
-
-module _ (c n b r m : ℕ) (h : 1 ≤ b) (q : m ≡ clientBlocks c) where
-  pub used-clients : b ≤ m → r ≡ min (c - 3 * (b - 1)) 3 → 148 * r ≡ usedBytes c n b
-  unfolding usedBytes
-  used-clients k e =
-      let s : r ≡ min 3 (c - 3 * (b - 1)) = omega arith in
-      rw (pick-false {X = ℕ} (eqb b 0) 8 _ (ne-eqb b 0 (λ z. omega arith)), ← q, pick-true (leb b m) (148 * min 3 (c - 3 * (b - 1))) _ (le-leb b m k), s)
-
-  pub used-steps : m < b → r ≡ min (n - 31 * (b - 1 - m)) 31 → 16 * r ≡ usedBytes c n b
-  unfolding usedBytes
-  used-steps k e =
-      let s : r ≡ min 31 (n - 31 * (b - 1 - m)) = omega (arith, e) in
-      rw (pick-false {X = ℕ} (eqb b 0) 8 _ (ne-eqb b 0 (λ z. omega arith)), ← q, pick-false (leb b m) (148 * min 3 (c - 3 * (b - 1))) _ (lt-leb b m k), s)
-
--- ---- a client record
-
-module _ (slot : ℕ) (r : ClientRecord) (v : length (r .version .bytes) ≡ 63) (w : length (r .configuration .bytes) ≡ 63) where
-  pub client-length : length (clientBytes slot r) ≡ 148
-  unfolding clientBytes
-  client-length = simp (length-append, length-bytes, v, w)
-
-  -- its fields, one after the other
-  pub client-stored :
-      (out : List ℕ) (i : ℕ)
-      → set (sets (set (sets (sets (sets (sets out i (slot ∷ r .version .length ∷ r .configuration .length ∷ 0 ∷ [])) (i + 4) (bytesOf 8 (r .name))) (i + 12) (bytesOf 8 (r .master))) (i + 20) (r .version .bytes)) (i + 83) 0) (i + 84) (r .configuration .bytes)) (i + 147) 0
-      ≡ sets out i (clientBytes slot r)
-  unfolding clientBytes
-  client-stored out i =
-      let head : List ℕ = slot ∷ r .version .length ∷ r .configuration .length ∷ 0 ∷ [] in
-      let name : List ℕ = head ++ bytesOf 8 (r .name) in
-      let master : List ℕ = name ++ bytesOf 8 (r .master) in
-      let version : List ℕ = master ++ r .version .bytes in
-      let zero : List ℕ = version ++ 0 ∷ [] in
-      let configuration : List ℕ = zero ++ r .configuration .bytes in
-      sym
-      (then-sets out i 147 configuration (0 ∷ []) (simp (length-append, length-bytes, v, w))
-      ∙ ap (λ (l : List ℕ). set l (i + 147) 0) (then-sets out i 84 zero (r .configuration .bytes) (simp (length-append, length-bytes, v)))
-      ∙ ap (λ (l : List ℕ). set (sets l (i + 84) (r .configuration .bytes)) (i + 147) 0)
-      (then-sets out i 83 version (0 ∷ []) (simp (length-append, length-bytes, v))
-      ∙ ap (λ (l : List ℕ). set l (i + 83) 0)
-      (then-sets out i 20 master (r .version .bytes) (simp (length-append, length-bytes))
-      ∙ ap (λ (l : List ℕ). sets l (i + 20) (r .version .bytes))
-      (then-sets out i 12 name (bytesOf 8 (r .master)) (simp length-bytes)
-      ∙ ap (λ (l : List ℕ). sets l (i + 12) (bytesOf 8 (r .master))) (then-sets out i 4 head (bytesOf 8 (r .name)) refl)))))
-
--- ---- a step
-
-pub step-length : (s : Step) → length (stepBytes s) ≡ 16
-unfolding stepBytes
-step-length s = simp (length-append, length-bytes)
-
--- its fields, one after the other
-pub step-stored :
-    (s : Step) (out : List ℕ) (i : ℕ)
-    → sets (sets (sets (sets out i (s .slot ∷ s .function ∷ s .state ∷ s .distance ∷ [])) (i + 4) (bytesOf 4 (s .mark))) (i + 8) (bytesOf 4 (s .value))) (i + 12) (0 ∷ 0 ∷ 0 ∷ 0 ∷ [])
-    ≡ sets out i (stepBytes s)
-unfolding stepBytes
-step-stored s out i =
-    let head : List ℕ = s .slot ∷ s .function ∷ s .state ∷ s .distance ∷ [] in
-    let mark : List ℕ = head ++ bytesOf 4 (s .mark) in
-    let value : List ℕ = mark ++ bytesOf 4 (s .value) in
-    let zeros : List ℕ = 0 ∷ 0 ∷ 0 ∷ 0 ∷ [] in
-    sym
-    (then-sets out i 12 value zeros (simp (length-append, length-bytes))
-    ∙ ap (λ (l : List ℕ). sets l (i + 12) zeros)
-    (then-sets out i 8 mark (bytesOf 4 (s .value)) (simp length-bytes)
-    ∙ ap (λ (l : List ℕ). sets l (i + 8) (bytesOf 4 (s .value))) (then-sets out i 4 head (bytesOf 4 (s .mark)) refl)))
-
--- ---- items of one width, one after the other, from the j-th on
-
-pub joined-append : (a b : List (List ℕ)) → joined (a ++ b) ≡ joined a ++ joined b
+joined-append : (a b : List (List ℕ)) → joined (a ++ b) ≡ joined a ++ joined b
 joined-append [] b = refl
 joined-append (x ∷ a) b = ap (λ (l : List ℕ). x ++ l) (joined-append a b) ∙ sym (append-assoc x (joined a) (joined b))
+
+-- ---- storing them, from the j-th on
 
 module _ (w : ℕ) (l : List (List ℕ)) (i j : ℕ) (out : List ℕ) where
   pub item-start : sets out i (joined l) ≡ sets out (i + w * 0) (joined (drop 0 l))
@@ -118,12 +40,50 @@ module _ (w : ℕ) (l : List (List ℕ)) (i j : ℕ) (out : List ℕ) where
         rw (add-one j, take-suc l j [] h, joined-append (take j l) (getD l j [] ∷ []), e, length-append (joined (take j l)) (x ++ []), append-nil x, g, n)
         (omega arith)
 
--- n items from the k-th on, each made of an element
-module _ {X : Type 0} (f : X → List ℕ) (l : List X) (n k : ℕ) (h : k + n ≤ length l) where
-  pub part-length : length (take n (drop k (map f l))) ≡ n
-  part-length = length-take-le n (drop k (map f l)) (omega (arith, length-drop k (map f l), length-map l f))
+-- ---- where each stands
 
-  pub part-at : (j : ℕ) (d : X) → j < n → getD (take n (drop k (map f l))) j [] ≡ f (getD l (k + j) d)
-  part-at j d g =
-      let m : k + j < length (map f l) = omega (arith, length-map l f) in
-      getD-take n (drop k (map f l)) j [] g ∙ getD-drop k (map f l) j [] ∙ any-default (map f l) (k + j) [] (f d) m ∙ List·getD-map f l (k + j) d
+module _ (w : ℕ) where
+  abbrev pub Wide : List (List ℕ) → Type 0
+  Wide l = Every (λ x. length x ≡ w) l
+
+  length-joined : (l : List (List ℕ)) → Wide l → length (joined l) ≡ w * length l
+  length-joined [] h = sym (mul-zero w)
+  length-joined (x ∷ l) h = length-append x (joined l) ∙ rw (h .0, length-joined l (h .1), mul-suc w (length l)) (omega arith)
+
+  at-joined : {s : List ℕ} {p : ℕ} (l : List (List ℕ)) (k : ℕ) → Wide l → At s p (joined l) → k < length l → At s (p + w * k) (getD l k [])
+  at-joined [] k h a b = absurd (omega arith)
+  at-joined {p} (x ∷ l) zero h a b = rw (mul-zero w, add-zero p) (at-left x (joined l) a)
+  at-joined {p} (x ∷ l) (suc k) h a b =
+      let e : p + w + w * k ≡ p + w * suc k = omega (arith, mul-suc w k) in
+      rw e at (at-joined l k (h .1) (at-right x (joined l) w (h .0) a) (omega arith))
+
+-- ---- n of them to a block
+
+module _ (n : ℕ) where
+  pub length-groups : (blocks : ℕ) (l : List (List ℕ)) → length (groups blocks n l) ≡ blocks
+  length-groups zero l = refl
+  length-groups (suc blocks) l = ap suc (length-groups blocks (drop n l))
+
+  pub group-at : (blocks : ℕ) (l : List (List ℕ)) (j : ℕ) → j < blocks → getD (groups blocks n l) j [] ≡ joined (take n (drop (n * j) l))
+  group-at zero l j b = absurd (omega arith)
+  group-at (suc blocks) l zero b = rw (mul-zero n)
+  group-at (suc blocks) l (suc j) b =
+      let e : n + n * j ≡ n * suc j = omega (arith, mul-suc n j) in
+      group-at blocks (drop n l) j (omega arith) ∙ rw (drop-drop (n * j) n l, e)
+
+  -- of items of one width, the r-th of group j, and how long the group is
+  module _ (w blocks : ℕ) (l : List (List ℕ)) (j : ℕ) (h : Wide w l) (b : j < blocks) where
+    wide : Wide w (take n (drop (n * j) l))
+    wide = every-take _ n (drop (n * j) l) (every-drop _ (n * j) l h)
+
+    pub at-group : {s : List ℕ} {p : ℕ} (r : ℕ) → At s p (getD (groups blocks n l) j []) → r < n → n * j + r < length l → At s (p + w * r) (getD l (n * j + r) [])
+    at-group r a m f =
+        let same : getD (take n (drop (n * j) l)) r [] ≡ getD l (n * j + r) [] = getD-take n (drop (n * j) l) r [] m ∙ getD-drop (n * j) l r [] in
+        rw same at
+        (at-joined w (take n (drop (n * j) l)) r wide (rw (group-at blocks l j b) at a)
+        (simp (length-take, length-drop) (omega arith)))
+
+    pub length-group : length (getD (groups blocks n l) j []) ≡ w * min n (length l - n * j)
+    length-group =
+        rw (group-at blocks l j b)
+        (length-joined w (take n (drop (n * j) l)) wide ∙ simp (length-take, length-drop))

@@ -1,45 +1,27 @@
 -- Every byte of the stored blocks is below 256.
-use Prim.Native.Nat.{ℕ, zero, suc, _+_, _/_, _<_, _≤_}
+use Prim.Native.Nat.{ℕ, zero, suc, _+_, _/_, _<_}
 use native.Mathlib.Omega.{arith}
 use mathlib.Core.Path.{_≡_}
-use mathlib.Core.Bool.{true, _&&_}
+use mathlib.Core.Bool.{true}
 use mathlib.Core.List.{List, [], _∷_, _++_, map}
-use lib.Dec.{leb, ltb}
 use lib.ListN.{length, take, drop}
-use borrow.Author.Tests.{leb-true, ltb-true}
 use Rattle.octets.specs.Octets.{bytesOf}
-use Rattle.octets.proofs.{Laws.Bytes, Tests.both}
-use Rattle.arrays.specs.{Arrays.padTo, Every.Every}
+use Rattle.octets.proofs.{Laws.Bytes}
+use Rattle.arrays.specs.{Every.Every}
 use Rattle.arrays.proofs.Every.{every-at, every-map, every-weaken}
 use Rattle.client.specs.{Clients.slotCount, Records.blankRecord, declared.ClientRecord.ClientRecord}
-use Rattle.sequence.specs.Sequence.{byDistance, stepsOf}
+use Rattle.sequence.specs.Sequence.{stepsOf}
 use Rattle.sequence.specs.{declared.Step.Step, declared.Sequence.Sequence}
 use Rattle.store.specs.Blocks.{contentBytes, checkAt, clientBlocks, stepBlocks}
-use Rattle.store.specs.Fields.{mostMark, stepRight}
+use Rattle.store.specs.Fields.{stepRight}
 use Rattle.store.specs.Stored.{clientBytes, stepBytes, slotsIn, clientsIn, joined, groups, contentsOf, filled, sealed, sealedFrom, storedOf}
 use Rattle.store.specs.Legal.{RightRecord, Legal, FitsStep, IsByte, FitsRecord, Fits}
-use Rattle.store.proofs.Counting.{every-take, every-drop}
-use Rattle.store.proofs.ReadBack.{label-most}
-use Rattle.store.proofs.Used.{recordIn, recorded}
+use Rattle.store.proofs.Lists.{every-append, every-take, every-drop, every-pad, every-two}
+use Rattle.store.proofs.Items.{first, named, names, version, fields, marked, valued, zeros}
+use Rattle.store.proofs.Fields.{label-most, step-parts}
+use Rattle.store.proofs.Recorded.{recordIn, recorded}
 
--- ---- of every element
-
-module _ {X : Type 0} (P : X → Type 0) where
-  every-append : (a b : List X) → Every P a → Every P b → Every P (a ++ b)
-  every-append [] b h k = k
-  every-append (x ∷ a) b h k = (h .0, every-append a b (h .1) k)
-
-  every-pad : (blank : X) (n : ℕ) (l : List X) → P blank → Every P l → Every P (padTo blank n l)
-  every-pad blank zero l p h = tt
-  every-pad blank (suc n) [] p h = (p, every-pad blank n [] p tt)
-  every-pad blank (suc n) (x ∷ l) p h = (h .0, every-pad blank n l p (h .1))
-
-every-two : {X : Type 0} {P Q R : X → Type 0} → ((x : X) → P x → Q x → R x) → (l : List X) → Every P l → Every Q l → Every R l
-every-two f [] h k = tt
-every-two f (x ∷ l) h k = (f x (h .0) (k .0), every-two f l (h .1) (k .1))
-
--- ---- of every byte
-
+-- every element of it is a byte
 abbrev Octets : List ℕ → Type 0
 Octets l = Every IsByte l
 
@@ -76,43 +58,25 @@ block-bytes number (x ∷ l) h = every-append IsByte (sealed number x) (sealedFr
 client-bytes : (slot : ℕ) (r : ClientRecord) → slot < slotCount → RightRecord r → FitsRecord r → Octets (clientBytes slot r)
 unfolding clientBytes
 client-bytes slot r h R F =
-    let first : List ℕ = slot ∷ r .version .length ∷ r .configuration .length ∷ 0 ∷ [] in
-    let named : List ℕ = first ++ bytesOf 8 (r .name) in
-    let names : List ℕ = named ++ bytesOf 8 (r .master) in
-    let version : List ℕ = names ++ r .version .bytes in
-    let zero : List ℕ = version ++ 0 ∷ [] in
-    let configuration : List ℕ = zero ++ r .configuration .bytes in
     let last : Octets (0 ∷ []) = omega arith in
-    let v : r .version .length ≤ 63 = label-most (R .version) in
-    let w : r .configuration .length ≤ 63 = label-most (R .configuration) in
-    let start : Octets first = omega arith in
-    every-append IsByte configuration (0 ∷ [])
-    (every-append IsByte zero (r .configuration .bytes)
-    (every-append IsByte version (0 ∷ [])
-    (every-append IsByte names (r .version .bytes)
-    (every-append IsByte named (bytesOf 8 (r .master))
-    (every-append IsByte first (bytesOf 8 (r .name)) start (number-bytes 8 (r .name)))
+    let start : Octets (first slot r) = omega (arith, label-most (r .version .length) (R .version .length), label-most (r .configuration .length) (R .configuration .length)) in
+    every-append IsByte (version slot r ++ r .configuration .bytes) (0 ∷ [])
+    (every-append IsByte (version slot r) (r .configuration .bytes)
+    (every-append IsByte (names slot r ++ r .version .bytes) (0 ∷ [])
+    (every-append IsByte (names slot r) (r .version .bytes)
+    (every-append IsByte (named slot r) (bytesOf 8 (r .master))
+    (every-append IsByte (first slot r) (bytesOf 8 (r .name)) start (number-bytes 8 (r .name)))
     (number-bytes 8 (r .master))) (F .version)) last) (F .configuration)) last
 
 step-bytes : (x : Step) → stepRight x ≡ true → FitsStep x → Octets (stepBytes x)
 unfolding stepBytes
 step-bytes x e F =
-    let slot = ltb (x .slot) slotCount in
-    let state = ltb (x .state) 64 in
-    let kind = leb (x .distance) 1 in
-    let three = both (slot && state && kind) (leb (x .mark) (mostMark (byDistance x))) e in
-    let two = both (slot && state) kind (three .0) in
-    let one = both slot state (two .0) in
-    let a : x .slot < slotCount = ltb-true (x .slot) slotCount (one .0) in
-    let b : x .state < 64 = ltb-true (x .state) 64 (one .1) in
-    let c : x .distance ≤ 1 = leb-true (x .distance) 1 (two .1) in
-    let f : x .function < 256 = F .function in
-    let first : List ℕ = x .slot ∷ x .function ∷ x .state ∷ x .distance ∷ [] in
-    let start : Octets first = omega arith in
-    let last : Octets (0 ∷ 0 ∷ 0 ∷ 0 ∷ []) = omega arith in
-    every-append IsByte (first ++ bytesOf 4 (x .mark) ++ bytesOf 4 (x .value)) (0 ∷ 0 ∷ 0 ∷ 0 ∷ [])
-    (every-append IsByte (first ++ bytesOf 4 (x .mark)) (bytesOf 4 (x .value))
-    (every-append IsByte first (bytesOf 4 (x .mark)) start (number-bytes 4 (x .mark)))
+    let p = step-parts x e in
+    let start : Octets (fields x) = omega (arith, p .0, p .1, p .2, F .function) in
+    let last : Octets zeros = omega arith in
+    every-append IsByte (valued x) zeros
+    (every-append IsByte (marked x) (bytesOf 4 (x .value))
+    (every-append IsByte (fields x) (bytesOf 4 (x .mark)) start (number-bytes 4 (x .mark)))
     (number-bytes 4 (x .value))) last
 
 -- ---- all of them

@@ -1,27 +1,20 @@
 -- Where each thing stands in the blocks of c client records and n steps.
 use Prim.Native.Nat.{ℕ, zero, suc, _+_, _-_, _*_, _/_, _%_, _≤_, _<_}
 use native.Mathlib.Decide.{decLe}
-use native.Mathlib.Nat.{lt-of-not-le}
+use native.Mathlib.Nat.{lt-of-not-le, min-comm}
 use native.Mathlib.Omega.{arith}
 use mathlib.Core.Path.{_≡_, refl, sym, ap, _∙_}
 use mathlib.Core.Bool.{true, false, not}
-use mathlib.Core.List.{List, [], _∷_, _++_}
-use lib.Dec.{eqb, leb}
-use lib.ListN.{length, getD, length-append, List·getD-append}
-use lib.Seq.{getD-append-add}
-use borrow.Author.Tests.{ne-eqb, le-leb, lt-leb}
-use Rattle.octets.specs.{Pick.pick, Octets.bytesOf}
-use Rattle.octets.proofs.Laws.{length-bytes}
-use Rattle.octets.proofs.Tests.{pick-both}
+use mathlib.Core.List.{List, []}
+use lib.ListN.{length, getD}
 use Rattle.store.specs.Blocks.{blockBytes, contentBytes, isDamaged, clientBlocks, stepBlocks, blocksFor, usedBytes, clientPlace, stepPlace}
 use Rattle.store.specs.Stored.{headOf, groups, sealed, sealedFrom}
 use Rattle.store.specs.Loaded.{restBlank}
-use Rattle.store.proofs.Counting.{none-below}
-use Rattle.store.proofs.Stands.{At, Wide, at-start, length-groups, at-group, length-group, block-intact, at-content, at-fill, length-blocks, at-sealed}
-
--- what the blocks hold
-abbrev pub contents : ℕ → ℕ → List (List ℕ) → List (List ℕ) → List (List ℕ)
-contents c n cs ns = headOf c n ∷ groups (clientBlocks c) 3 cs ++ groups (stepBlocks n) 31 ns
+use Rattle.store.proofs.Below.{none-below}
+use Rattle.store.proofs.Stands.{At, at-start}
+use Rattle.store.proofs.Groups.{Wide, at-group, length-group}
+use Rattle.store.proofs.Blocks.{length-blocks, block-intact, at-content, at-fill, at-sealed}
+use Rattle.store.proofs.Contents.{used-fits, used-head, used-clients, used-steps, contents, length-head, length-contents, client-content, step-content}
 
 -- k things of w bytes each
 pub record Things (w k : ℕ) (l : List (List ℕ)) : Type 0 where
@@ -35,44 +28,26 @@ pub record Written (s : List ℕ) (c n : ℕ) (cs ns : List (List ℕ)) : Type 0
   pub bytes : s ≡ sealedFrom 1 (contents c n cs ns)
 
 module _ {s : List ℕ} {c n : ℕ} {cs ns : List (List ℕ)} (W : Written s c n cs ns) where
-  -- ---- what each block holds
+  -- ---- how much of each block is used
 
-  length-contents : length (contents c n cs ns) ≡ blocksFor c n
-  length-contents =
-      omega (arith, length-append (groups (clientBlocks c) 3 cs) (groups (stepBlocks n) 31 ns), length-groups 3 (clientBlocks c) cs, length-groups 31 (stepBlocks n) ns)
-
-  client-content : (j : ℕ) → j < clientBlocks c → getD (contents c n cs ns) (suc j) [] ≡ getD (groups (clientBlocks c) 3 cs) j []
-  client-content j h = List·getD-append (groups (clientBlocks c) 3 cs) (groups (stepBlocks n) 31 ns) [] j (omega (arith, length-groups 3 (clientBlocks c) cs))
-
-  step-content : (j : ℕ) → getD (contents c n cs ns) (suc (clientBlocks c + j)) [] ≡ getD (groups (stepBlocks n) 31 ns) j []
-  step-content j =
-      ap (λ (i : ℕ). getD (groups (clientBlocks c) 3 cs ++ groups (stepBlocks n) 31 ns) (i + j) []) (sym (length-groups 3 (clientBlocks c) cs))
-      ∙ getD-append-add (groups (clientBlocks c) 3 cs) (groups (stepBlocks n) 31 ns) j []
-
-  -- how much of the block it is
   length-content : (b : ℕ) → b < blocksFor c n → length (getD (contents c n cs ns) b []) ≡ usedBytes c n b
-  unfolding usedBytes pick
-  length-content zero h = length-append (bytesOf 4 c) (bytesOf 4 n) ∙ rw (length-bytes 4 c, length-bytes 4 n)
+  length-content zero h = length-head c n ∙ used-head c n 0 refl
   length-content (suc j) h =
       elim (decLe (suc j) (clientBlocks c)) [
         | yes y ↦
-            let e : suc j - 1 ≡ j = omega arith in
-            ap length (client-content j (omega arith)) ∙ length-group 3 148 (clientBlocks c) cs j (W .clients .wide) (omega arith)
-            ∙ rw (W .clients .count, e, ne-eqb (suc j) 0 (omega arith), le-leb (suc j) (clientBlocks c) y)
+            ap length (client-content c n cs ns j (omega arith)) ∙ length-group 3 148 (clientBlocks c) cs j (W .clients .wide) (omega arith)
+            ∙ used-clients c n (suc j) _ (clientBlocks c) (omega arith) refl y (omega (arith, W .clients .count))
         | no x ↦
             let i : ℕ = j - clientBlocks c in
             let e : clientBlocks c + i ≡ j = omega arith in
             let d : suc j - 1 - clientBlocks c ≡ i = omega arith in
-            ap (λ (k : ℕ). length (getD (contents c n cs ns) (suc k) [])) (sym e) ∙ ap length (step-content i)
+            ap (λ (k : ℕ). length (getD (contents c n cs ns) (suc k) [])) (sym e) ∙ ap length (step-content c n cs ns i)
             ∙ length-group 31 16 (stepBlocks n) ns i (W .steps .wide) (omega arith)
-            ∙ rw (W .steps .count, d, ne-eqb (suc j) 0 (omega arith), lt-leb (suc j) (clientBlocks c) (lt-of-not-le x))
+            ∙ used-steps c n (suc j) _ (clientBlocks c) (omega arith) refl (lt-of-not-le x) (rw (W .steps .count, d) (min-comm 31 (n - 31 * i)))
       ]
 
   content-fits : (b : ℕ) → b < blocksFor c n → length (getD (contents c n cs ns) b []) ≤ contentBytes
-  unfolding usedBytes
-  content-fits b h =
-      rw (length-content b h)
-      (pick-both (λ m. m ≤ contentBytes) (eqb b 0) (omega arith) (pick-both (λ m. m ≤ contentBytes) (leb b (clientBlocks c)) (omega arith) (omega arith)))
+  content-fits b h = rw (length-content b h) (used-fits c n b)
 
   -- ---- where it stands
 
@@ -80,7 +55,7 @@ module _ {s : List ℕ} {c n : ℕ} {cs ns : List (List ℕ)} (W : Written s c n
   block-stands b h =
       let from : 0 + blockBytes * b ≡ blockBytes * b = omega arith in
       let number : 1 + b ≡ b + 1 = omega arith in
-      rw (from, number) at (at-sealed 1 (contents c n cs ns) b (at-start s (sealedFrom 1 (contents c n cs ns)) (W .bytes)) (omega (arith, length-contents)))
+      rw (from, number) at (at-sealed 1 (contents c n cs ns) b (at-start s (sealedFrom 1 (contents c n cs ns)) (W .bytes)) (omega (arith, length-contents c n cs ns)))
 
   content-stands : (b : ℕ) (content : List ℕ) → b < blocksFor c n → getD (contents c n cs ns) b [] ≡ content → At s (blockBytes * b) content
   content-stands b content h e = rw e at (at-content (b + 1) (getD (contents c n cs ns) b []) (block-stands b h) (content-fits b h))
@@ -95,7 +70,7 @@ module _ {s : List ℕ} {c n : ℕ} {cs ns : List (List ℕ)} (W : Written s c n
       let number : 3 * (k / 3) + k % 3 ≡ k = omega arith in
       rw (place, number) at
       (at-group 3 148 (clientBlocks c) cs (k / 3) (W .clients .wide) b (k % 3)
-      (content-stands (suc (k / 3)) (getD (groups (clientBlocks c) 3 cs) (k / 3) []) (omega arith) (client-content (k / 3) b)) (omega arith) (omega arith))
+      (content-stands (suc (k / 3)) (getD (groups (clientBlocks c) 3 cs) (k / 3) []) (omega arith) (client-content c n cs ns (k / 3) b)) (omega arith) (omega arith))
 
   pub step-stands : (k : ℕ) → k < n → At s (stepPlace c k) (getD ns k [])
   step-stands k h =
@@ -105,7 +80,7 @@ module _ {s : List ℕ} {c n : ℕ} {cs ns : List (List ℕ)} (W : Written s c n
       let number : 31 * (k / 31) + k % 31 ≡ k = omega arith in
       rw (place, number) at
       (at-group 31 16 (stepBlocks n) ns (k / 31) (W .steps .wide) b (k % 31)
-      (content-stands i (getD (groups (stepBlocks n) 31 ns) (k / 31) []) (omega arith) (step-content (k / 31))) (omega arith) (omega arith))
+      (content-stands i (getD (groups (stepBlocks n) 31 ns) (k / 31) []) (omega arith) (step-content c n cs ns (k / 31))) (omega arith) (omega arith))
 
   pub rest-blank : (b : ℕ) → b < blocksFor c n → restBlank s c n b ≡ true
   rest-blank b h = rw (length-content b h) at (at-fill (b + 1) (getD (contents c n cs ns) b []) (block-stands b h) (content-fits b h))
@@ -113,7 +88,7 @@ module _ {s : List ℕ} {c n : ℕ} {cs ns : List (List ℕ)} (W : Written s c n
   -- ---- all of them
 
   pub length-written : length s ≡ blockBytes * blocksFor c n
-  length-written = ap length (W .bytes) ∙ length-blocks 1 (contents c n cs ns) ∙ rw length-contents
+  length-written = ap length (W .bytes) ∙ length-blocks 1 (contents c n cs ns) ∙ rw (length-contents c n cs ns)
 
   pub undamaged : isDamaged s ≡ false
   unfolding isDamaged

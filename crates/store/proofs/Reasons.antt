@@ -9,6 +9,7 @@ use borrow.Author.Tests.{eq-eqb}
 use Rattle.octets.specs.Pick.{pick}
 use Rattle.octets.specs.Bits.{hasBit}
 use Rattle.octets.specs.Numbers.{completed, checkWrong, notStored}
+use Rattle.octets.proofs.Tests.{both}
 use Rattle.arrays.specs.Arrays.{some, padTo}
 use Rattle.client.specs.Records.{isUsed, blankRecord}
 use Rattle.client.specs.declared.ClientRecord.{ClientRecord}
@@ -22,8 +23,10 @@ use Rattle.store.specs.Loaded.{countsRight, restBlank, areClientsRight, 
 use Rattle.store.specs.Loaded.{isFaulty, sequenceIn, loadNumber, loadedOf}
 use Rattle.store.specs.Taken.{clientTaken, stepTaken}
 use Rattle.store.specs.declared.Loaded.{Loaded}
-use Rattle.store.proofs.Below.{both, every-both, every-same}
-use Rattle.store.proofs.Seats.{client-slot, step-slot, slot-at, clientFit, stepFit, seated, HasBits}
+use Rattle.store.proofs.Below.{every-both, every-same}
+use Rattle.store.proofs.Fields.{client-parts, clientFit, step-parts, slot-at, stepFit}
+use Rattle.store.proofs.Steps.{HasBits}
+use Rattle.store.proofs.Records.{record-used}
 
 -- ---- the loops' tests, one condition after the other
 
@@ -51,7 +54,7 @@ module _ (s : List ℕ) where
   client-is k = go (clientFit s k) refl
     where
       go : (b : Bool) → clientFit s k ≡ b → (b && not (isUsed (getD (recordsTo s k) (clientSlot s k) blankRecord))) ≡ (b && free k)
-      go true e = ap not (seated s k (clientSlot s k) (client-slot s (clientPlace k) (both (clientRight s (clientPlace k)) (clientBlank s (clientPlace k)) e .0)))
+      go true e = ap not (record-used s k (clientSlot s k) (client-parts s (clientPlace k) (both (clientRight s (clientPlace k)) (clientBlank s (clientPlace k)) e .0) .0))
       go false e = refl
 
   -- the client records are taken where their fields are right, their fill is zero, and no slot comes twice
@@ -73,8 +76,8 @@ module _ (s : List ℕ) where
         go : (b : Bool) → stepFit s (stepPlace c k) ≡ b → (b && isUsed (getD (recordsTo s c) (stepSlot s c k) blankRecord)) ≡ (b && recorded k)
         go true e =
             let x = stepAt s (stepPlace c k) in
-            let small = step-slot x (both (stepRight x) (stepBlank s (stepPlace c k)) e .0) in
-            seated s c (stepSlot s c k) (subst (λ (y : ℕ). y < 8) (slot-at s (stepPlace c k)) small)
+            let small = step-parts x (both (stepRight x) (stepBlank s (stepPlace c k)) e .0) .0 in
+            record-used s c (stepSlot s c k) (subst (λ (y : ℕ). y < 8) (slot-at s (stepPlace c k)) small)
         go false e = refl
 
     -- the steps are taken where their fields are right, their fill is zero, and each client of theirs has its record
@@ -212,25 +215,30 @@ module _ (s : List ℕ) (c n : ℕ) (w : Whole s c n) where
       unfolding nothing-wrong
       wrong-step r e l = let f : stepsTaken s c n (recordsTo s c) ≡ false = ap (stepsTaken s c n) (sym same) ∙ e in found r (rw (taken, f)) l
 
-      module _
-          (had : stepsTaken s c n records ≡ true) (bits : ℕ) (has : HasBits s c n bits) (a b : Bool) (rest : a ≡ restsBlank s c n)
-          (each : b ≡ everyBelow c (λ j. hasBit bits (clientSlot s j)))
-        where
-          left : nothing-wrong ≡ (a && b)
-          unfolding nothing-wrong
-          left =
-              let f : stepsTaken s c n (recordsTo s c) ≡ true = ap (stepsTaken s c n) (sym same) ∙ had in
-              rw (taken, f, rest, each, each-step s c n bits has)
+-- every client record and every step was taken; a and b are the tests of the rest of the blocks and of a step for each record
+pub record Taken (s : List ℕ) (c n : ℕ) (records : List ClientRecord) (bits : ℕ) (a b : Bool) : Type 0 where
+  pub whole : Whole s c n
+  pub clients : clientsTaken s c ≡ true
+  pub same : records ≡ recordsTo s c
+  pub steps : stepsTaken s c n records ≡ true
+  pub has : HasBits s c n bits
+  pub rest : a ≡ restsBlank s c n
+  pub each : b ≡ everyBelow c (λ j. hasBit bits (clientSlot s j))
 
-          -- fill that is not zero after what a block holds, or a record without a step
-          pub wrong-rest : (r : Loaded) → (a && b) ≡ false → Refused notStored r → r ≡ loadedOf s
-          wrong-rest r e l = found r (left ∙ e) l
+module _ {s : List ℕ} {c n : ℕ} {records : List ClientRecord} {bits : ℕ} {a b : Bool} (k : Taken s c n records bits a b) where
+  left : nothing-wrong s c n (k .whole) ≡ (a && b)
+  unfolding nothing-wrong
+  left =
+      let f : stepsTaken s c n (recordsTo s c) ≡ true = ap (stepsTaken s c n) (sym (k .same)) ∙ k .steps in
+      rw (k .clients, f, k .rest, k .each, each-step s c n bits (k .has))
 
-          -- nothing is wrong
-          pub accepted :
-              (a && b) ≡ true → (q : Sequence) → q .count ≡ n → q .steps ≡ padTo blankStep 64 (stepsTo s c n) → q .records ≡ recordsTo s c
-              → record { number = completed; sequence = q } ≡ loadedOf s
-          unfolding loadedOf loadNumber sequenceIn pick
-          accepted e q count steps all =
-              let f : isFaulty s ≡ false = faulty-where ∙ ap not (left ∙ e) in
-              rw (w .4, f, made q n (padTo blankStep 64 (stepsTo s c n)) (recordsTo s c) count steps all, w .0, w .1)
+  -- fill that is not zero after what a block holds, or a record without a step
+  pub wrong-rest : (r : Loaded) → (a && b) ≡ false → Refused notStored r → r ≡ loadedOf s
+  wrong-rest r e l = found s c n (k .whole) r (left ∙ e) l
+
+  -- nothing is wrong
+  pub accepted : (a && b) ≡ true → (q : Sequence) → q .count ≡ n → q .steps ≡ padTo blankStep 64 (stepsTo s c n) → q .records ≡ records → record { number = completed; sequence = q } ≡ loadedOf s
+  unfolding loadedOf loadNumber sequenceIn pick
+  accepted e q count steps all =
+      let f : isFaulty s ≡ false = faulty-where s c n (k .whole) ∙ ap not (left ∙ e) in
+      rw (k .whole .4, f, made q n (padTo blankStep 64 (stepsTo s c n)) (recordsTo s c) count steps (all ∙ k .same), k .whole .0, k .whole .1)

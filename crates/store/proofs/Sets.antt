@@ -9,7 +9,7 @@ use lib.ListN.{length, getD, take, drop, set, length-drop, drop-of-length-le, ta
 use lib.Seq.{sets, sets-eq, set-set, set-comm, drop-cons, drop-at, drop-drop, take-at, length-take-le}
 
 -- two lists, the second where the first ends
-pub sets-append : (l : List ℕ) (i : ℕ) (xs ys : List ℕ) → sets l i (xs ++ ys) ≡ sets (sets l i xs) (i + length xs) ys
+sets-append : (l : List ℕ) (i : ℕ) (xs ys : List ℕ) → sets l i (xs ++ ys) ≡ sets (sets l i xs) (i + length xs) ys
 sets-append l i [] ys = ap (λ (j : ℕ). sets l j ys) (sym (add-zero i))
 sets-append l i (x ∷ xs) ys =
     sets-append (set l i x) (suc i) xs ys ∙ ap (λ (j : ℕ). sets (sets (set l i x) (suc i) xs) j ys) (suc-add i (length xs) ∙ sym (add-suc i (length xs)))

@@ -8,6 +8,7 @@ use lib.Dec.{eqb}
 use lib.ListN.{length, getD, set}
 use borrow.Author.Tests.{eq-eqb, ne-eqb, not-true, not-false}
 use Rattle.octets.specs.Bits.{withBit}
+use Rattle.octets.proofs.Tests.{both}
 use Rattle.arrays.specs.Arrays.{padTo}
 use Rattle.arrays.proofs.Fill.{pad-set}
 use Rattle.arrays.proofs.Pad.{any-default}
@@ -19,8 +20,9 @@ use Rattle.store.specs.Blocks.{clientPlace, stepPlace}
 use Rattle.store.specs.Fields.{stepRight}
 use Rattle.store.specs.Loaded.{byteAt, clientAt, clientRight, clientBlank, stepAt, stepBlank, clientSlot, stepSlot, recordsTo, stepsTo}
 use Rattle.store.specs.Taken.{clientTaken, stepTaken}
-use Rattle.store.proofs.Below.{both}
-use Rattle.store.proofs.Seats.{client-slot, step-slot, slot-at, clientFit, stepFit, records-length, steps-length, HasBits, one-bit}
+use Rattle.store.proofs.Fields.{client-parts, clientFit, step-parts, slot-at, stepFit}
+use Rattle.store.proofs.Steps.{steps-length, HasBits, one-bit}
+use Rattle.store.proofs.Records.{records-length}
 
 -- the record of a slot, whatever is read past the last
 looked :
@@ -50,7 +52,7 @@ module _ {s : List ℕ} {k p : ℕ} {r b : Bool} (i : ReadClient s k p r b) wher
     same = read ∙ ap (byteAt s) (i .at)
 
     pub slot-small : slot < 8
-    slot-small = rw same (client-slot s (clientPlace k) (both (clientRight s (clientPlace k)) (clientBlank s (clientPlace k)) passed .0))
+    slot-small = rw same (client-parts s (clientPlace k) (both (clientRight s (clientPlace k)) (clientBlank s (clientPlace k)) passed .0) .0)
 
     module _ (records : List ClientRecord) (all : records ≡ recordsTo s k) where
       pub client-stored : (x : ClientRecord) → x ≡ clientAt s p → set records slot x ≡ recordsTo s (k + 1)
@@ -87,7 +89,7 @@ module _ {s : List ℕ} {c k p : ℕ} {x : Step} {r b : Bool} (i : ReadStep s c 
   step-same = ap (λ (y : Step). y .slot) (i .read) ∙ slot-at s p ∙ ap (byteAt s) (i .at)
 
   pub step-stored : k < 64 → set (padTo blankStep 64 (stepsTo s c k)) k x ≡ padTo blankStep 64 (stepsTo s c (k + 1))
-  step-stored h = rw (add-one k, i .read, i .at) (pad-set blankStep 64 (stepsTo s c k) k (stepAt s (stepPlace c k)) (steps-length s c k) h)
+  step-stored h = rw (add-one k, i .read, i .at) (pad-set blankStep 64 (stepsTo s c k) k (stepAt s (stepPlace c k)) (sym (steps-length s c k)) h)
 
   pub step-bit : (bits : ℕ) → HasBits s c k bits → HasBits s c (k + 1) (withBit bits (x .slot))
   step-bit bits h = rw step-same (one-bit s c k bits h)
@@ -97,7 +99,7 @@ module _ {s : List ℕ} {c k p : ℕ} {x : Step} {r b : Bool} (i : ReadStep s c 
     step-passed = step-fits ∙ not-false (r && b) t
 
     pub step-slot-small : x .slot < 8
-    step-slot-small = step-slot x (sym (i .right) ∙ both r b (not-false (r && b) t) .0)
+    step-slot-small = step-parts x (sym (i .right) ∙ both r b (not-false (r && b) t) .0) .0
 
     module _ (records : List ClientRecord) (all : length records ≡ 8) (d : ClientRecord) where
       step-seat : isUsed (getD records (stepSlot s c k) blankRecord) ≡ not (eqb (getD records (x .slot) d .used) 0)

@@ -25,6 +25,14 @@ pub record RightRecord (r : ClientRecord) : Type 0 where
   -- as in a pool that is accepted
   pub characters : Every (λ c. characterRight c ≡ true) (labelBytes (r .version))
 
+-- a step in its ranges, in words of its own: "Eight slots."; "state ID at most 63"; a mark that a recording can have, in ticks or in millimetres
+pub record RightStep (s : Step) : Type 0 where
+  pub slot : s .slot ≤ 7
+  pub state : s .state ≤ 63
+  pub kind : s .distance ≤ 1
+  pub ticks : s .distance ≡ 0 → s .mark ≤ 35999
+  pub millimetres : s .distance ≡ 1 → s .mark ≤ 2359194465
+
 pub record Legal (q : Sequence) : Type 0 where
   -- "1 to 64 steps", cells after them blank; a record for exactly the slots of which there is a step
   pub some-step : 1 ≤ q .count

@@ -5,4 +5,5 @@ pub mod Stored
 pub mod Loaded
 pub mod Taken
 pub mod Legal
+pub mod Example
 pub mod Promises

@@ -6,12 +6,14 @@ use lib.ListN.{length}
 use Rattle.octets.specs.Octets.{numberAt}
 use Rattle.octets.specs.Numbers.{completed, checkWrong}
 use Rattle.octets.proofs.Laws.{Bytes}
-use Rattle.sequence.specs.Sequence.{lengthOf}
+use Rattle.arrays.specs.Every.{Every}
+use Rattle.sequence.specs.Sequence.{lengthOf, stepsOf}
 use Rattle.sequence.specs.declared.Sequence.{Sequence}
 use Rattle.store.specs.Blocks.{blockBytes}
 use Rattle.store.specs.Stored.{slotsIn, storedOf, storeBytes}
 use Rattle.store.specs.Loaded.{clientCount, stepCount, loadedOf}
-use Rattle.store.specs.Legal.{Legal, Fits}
+use Rattle.store.specs.Legal.{RightStep, Legal, Fits}
+use Rattle.store.specs.Example.{Layout}
 
 -- word i of the bytes, counted from 0 through all blocks
 abbrev pub word : List ℕ → ℕ → ℕ
@@ -27,6 +29,7 @@ pub record Altered (s t : List ℕ) (i : ℕ) : Type 0 where
 -- what accepted bytes say: the counts of the first block, exactly their blocks, each field in its range
 pub record Accepted (s : List ℕ) (q : Sequence) : Type 0 where
   pub legal : Legal q
+  pub fields : Every RightStep (stepsOf q)
   pub clients : length (slotsIn (q .records)) ≡ clientCount s
   pub steps : lengthOf q ≡ stepCount s
   pub blocks : length s ≡ storeBytes q
@@ -43,3 +46,5 @@ pub record Promises : Type 0 where
   pub length-stored : (q : Sequence) → Legal q → length (storedOf q) ≡ storeBytes q
   -- what is stored is bytes, each below 256, as `altered` asks
   pub bytes : (q : Sequence) → Legal q → Fits q → Bytes (storedOf q)
+  -- which byte is which field, and the check of a block
+  pub layout : Layout

@@ -3,11 +3,12 @@ use Rattle.store.proofs.Again.{again, differ, length-stored}
 use Rattle.store.proofs.Altered.{altered}
 use Rattle.store.proofs.Accepted.{accepted}
 use Rattle.store.proofs.Octets.{stored-bytes}
+use Rattle.store.proofs.Example.{layout}
 use Rattle.store.proofs.promises.Statement.{statement}
 use Rattle.store.proofs.promises.Tie as tie
 
 returns : tie.Need-returns
-returns c = record { again = again; differ = differ; altered = altered; accepted = accepted; length-stored = length-stored; bytes = stored-bytes }
+returns c = record { again = again; differ = differ; altered = altered; accepted = accepted; length-stored = length-stored; bytes = stored-bytes; layout = layout }
 
 pub promises-spec : {M : Type 1} → statement M
 promises-spec = tie.close (tie.spec returns)

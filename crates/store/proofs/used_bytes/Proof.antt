@@ -3,7 +3,7 @@ use native.Mathlib.Omega.{arith}
 use borrow.Author.Needs.{needs}
 use Rattle.octets.proofs.Tests.{tests}
 use Rattle.store.specs.Blocks.{usedBytes}
-use Rattle.store.proofs.Groups.{used-clients, used-steps}
+use Rattle.store.proofs.Contents.{used-clients, used-steps}
 use Rattle.store.proofs.used_bytes.Statement.{statement}
 use Rattle.store.proofs.used_bytes.Tie as tie
 

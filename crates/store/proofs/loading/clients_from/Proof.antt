@@ -22,23 +22,26 @@ abbrev μ-loop : tie.MeasureT-loop
 loop-holds : tie.Need-loop-holds Inv-loop μ-loop
 loop-holds c = (omega arith, refl, rw (c .blank-record .ensures))
 
+-- the client record that the loop looks at, once its fields and its fill are tested
+found :
+    (d : tie.After-client-blank Inv-loop μ-loop)
+    → ReadClient (now (d .before .before .before .before .before .before .before .args .s)) (d .before .before .before .before .loop .k) (d .before .before .client-place .result)
+    (d .before .client-right .result) (d .client-blank .result)
+found d = record { at = d .before .before .client-place .ensures .0; right = d .before .client-right .ensures; blank = d .client-blank .ensures }
+
 returns : tie.Need-returns Inv-loop μ-loop
 returns c =
     let d = c .before in
     let b = d .before .before .before .before in
     let s = now (b .before .before .before .args .s) in
-    let i : ReadClient s (b .loop .k) _ _ _ =
-    record { at = d .before .before .client-place .ensures .0; right = d .before .client-right .ensures; blank = d .client-blank .ensures } in
+    let i = found d in
     let e = client-wrong i (c .if1 .taken) in
     (sym (every-fails (clientTaken s) (b .before .before .before .args .c) (b .loop .k) (omega arith) e), λ q. absurd (false≢true q))
 
 element-copy-out-if2 : tie.Need-element-copy-out-if2 Inv-loop μ-loop
 element-copy-out-if2 c =
     let d = c .before .before in
-    let b = d .before .before .before .before in
-    let s = now (b .before .before .before .args .s) in
-    let i : ReadClient s (b .loop .k) _ _ _ =
-    record { at = d .before .before .client-place .ensures .0; right = d .before .client-right .ensures; blank = d .client-blank .ensures } in
+    let i = found d in
     slot-small i (c .before .if1 .left) _ (c .byte-at .ensures)
 
 returns-2 : tie.Need-returns-2 Inv-loop μ-loop
@@ -46,18 +49,14 @@ returns-2 c =
     let d = c .before .before .before in
     let b = d .before .before .before .before in
     let s = now (b .before .before .before .args .s) in
-    let i : ReadClient s (b .loop .k) _ _ _ =
-    record { at = d .before .before .client-place .ensures .0; right = d .before .client-right .ensures; blank = d .client-blank .ensures } in
+    let i = found d in
     let e = client-twice i (c .before .before .if1 .left) _ (c .before .byte-at .ensures) _ (b .loop .inv .2) _ (c .if2 .taken) in
     (sym (every-fails (clientTaken s) (b .before .before .before .args .c) (b .loop .k) (omega arith) e), λ q. absurd (false≢true q))
 
 array-set-from-records : tie.Need-array-set-from-records Inv-loop μ-loop
 array-set-from-records c =
     let d = c .before .before .before .before in
-    let b = d .before .before .before .before in
-    let s = now (b .before .before .before .args .s) in
-    let i : ReadClient s (b .loop .k) _ _ _ =
-    record { at = d .before .before .client-place .ensures .0; right = d .before .client-right .ensures; blank = d .client-blank .ensures } in
+    let i = found d in
     slot-small i (c .before .before .before .if1 .left) _ (c .before .before .byte-at .ensures)
 
 loop-again : tie.Need-loop-again Inv-loop μ-loop
@@ -65,8 +64,7 @@ loop-again c =
     let d = c .before .before .before .before in
     let b = d .before .before .before .before in
     let s = now (b .before .before .before .args .s) in
-    let i : ReadClient s (b .loop .k) _ _ _ =
-    record { at = d .before .before .client-place .ensures .0; right = d .before .client-right .ensures; blank = d .client-blank .ensures } in
+    let i = found d in
     let v = b .loop .inv in
     let read = c .before .before .byte-at .ensures in
     let e = client-taken i (c .before .before .before .if1 .left) _ read _ (v .2) _ (c .before .if2 .left) in

@@ -11,8 +11,8 @@ use Rattle.octets.proofs.Tests.{denied, granted}
 use Rattle.store.specs.Below.{everyBelow}
 use Rattle.store.specs.Blocks.{clientPlace}
 use Rattle.store.specs.Loaded.{byteAt, clientSlot, clientRight}
-use Rattle.store.proofs.Below.{every-next, every-fails, every-at, every-all}
-use Rattle.store.proofs.Seats.{client-slot}
+use Rattle.store.proofs.Below.{every-next, every-fails, below-every, every-all}
+use Rattle.store.proofs.Fields.{client-parts}
 use Rattle.store.proofs.loading.has_each_step.Statement.{statement}
 use Rattle.store.proofs.loading.has_each_step.Tie as tie
 
@@ -33,9 +33,9 @@ has-bit-requires c κs =
     let at-loop = c .before .before .before in
     let s = now (at-loop .before .before .args .s) in
     let r : clientRight s (clientPlace (at-loop .loop .j)) ≡ true =
-    every-at (λ k. clientRight s (clientPlace k)) (at-loop .before .before .args .c) (at-loop .loop .j) (omega arith) (at-loop .before .before .pre .1) in
+    below-every (λ k. clientRight s (clientPlace k)) (at-loop .before .before .args .c) (at-loop .before .before .pre .1) (at-loop .loop .j) (omega arith) in
     let e : c .byte-at .result ≡ clientSlot s (at-loop .loop .j) = c .byte-at .ensures ∙ ap (byteAt s) (c .before .client-place .ensures .0) in
-    omega (arith, e, client-slot s (clientPlace (at-loop .loop .j)) r)
+    omega (arith, e, client-parts s (clientPlace (at-loop .loop .j)) r .0)
 
 returns : tie.Need-returns Inv-loop μ-loop
 returns c =

@@ -1,12 +1,11 @@
 -- `store::loading::judged` meets its contract: what a loop found is a reason for 17, or none of them found anything.
-use mathlib.Core.Path.{_≡_, refl}
-use mathlib.Core.Bool.{true}
+use mathlib.Core.Path.{refl}
 use denote.Ref.{now}
 use borrow.Author.Needs.{needs}
 use borrow.Author.Tests.{not-true, not-false}
 use Rattle.octets.proofs.Tests.{denied, granted}
-use Rattle.store.proofs.Seats.{counts}
-use Rattle.store.proofs.Reasons.{wrong-client, fields-right, wrong-step, wrong-rest, accepted}
+use Rattle.store.proofs.Fields.{counts}
+use Rattle.store.proofs.Reasons.{wrong-client, fields-right, wrong-step, Taken, wrong-rest, accepted}
 use Rattle.store.proofs.loading.judged.Statement.{statement}
 use Rattle.store.proofs.loading.judged.Tie as tie
 
@@ -45,33 +44,36 @@ has-each-step-requires c κs =
     let t = granted _ _ (f .ensures .0) (c .before .before .before .before .before .if1 .left) in
     (counts (a .c) (a .n) (o .pre .2) .0, fields-right s (a .c) (a .n) (o .pre) t)
 
+abbrev start : tie.After-has-each-step → tie.Start
+start d = d .before .before .before .before .before .before .before .before .before .before
+
+-- all were taken, and the rest is tested
+found :
+    (d : tie.After-has-each-step)
+    → Taken (now (start d .args .s)) (start d .args .c) (start d .args .n)
+    (d .before .before .before .before .before .before .before .before .clients-from .result .records) (d .before .before .before .before .steps-from .result .slots)
+    (d .before .rest-blank .result) (d .has-each-step .result)
+found d =
+    let f = d .before .before .before .before .before .before .before .before .clients-from in
+    let g = d .before .before .before .before .steps-from in
+    record {
+      whole = start d .pre;
+      clients = granted _ _ (f .ensures .0) (d .before .before .before .before .before .before .if1 .left);
+      same = f .ensures .1 (not-false _ (d .before .before .before .before .before .before .if1 .left));
+      steps = granted _ _ (g .ensures .0) (d .before .before .if2 .left);
+      has = g .ensures .1 .1 (not-false _ (d .before .before .if2 .left));
+      rest = d .before .rest-blank .ensures;
+      each = d .has-each-step .ensures;
+    }
+
 returns-3 : tie.Need-returns-3
-returns-3 c =
-    let o = c .before .before .before .before .before .before .before .before .before .before .before .before in
-    let a = o .args in
-    let s = now (a .s) in
-    let f = c .before .before .before .before .before .before .before .before .before .before .clients-from in
-    let t = granted _ _ (f .ensures .0) (c .before .before .before .before .before .before .before .before .if1 .left) in
-    let e = f .ensures .1 (not-false (f .result .right) (c .before .before .before .before .before .before .before .before .if1 .left)) in
-    let g = c .before .before .before .before .before .before .steps-from in
-    let u : g .result .right ≡ true = not-false (g .result .right) (c .before .before .before .before .if2 .left) in
-    let had = granted _ _ (g .ensures .0) (c .before .before .before .before .if2 .left) in
-    wrong-rest s (a .c) (a .n) (o .pre) t _ e had _ (g .ensures .1 .1 u) _ _ (c .before .before .before .rest-blank .ensures) (c .before .before .has-each-step .ensures)
-    (c .refused3 .result) (not-true _ (c .before .if3 .taken)) (c .refused3 .ensures)
+returns-3 c = wrong-rest (found (c .before .before)) (c .refused3 .result) (not-true _ (c .before .if3 .taken)) (c .refused3 .ensures)
 
 returns-4 : tie.Need-returns-4
 returns-4 c =
-    let o = c .before .before .before .before .before .before .before .before .before .before .before .before in
-    let a = o .args in
-    let s = now (a .s) in
-    let f = c .before .before .before .before .before .before .before .before .before .before .clients-from in
-    let t = granted _ _ (f .ensures .0) (c .before .before .before .before .before .before .before .before .if1 .left) in
-    let e = f .ensures .1 (not-false (f .result .right) (c .before .before .before .before .before .before .before .before .if1 .left)) in
     let g = c .before .before .before .before .before .before .steps-from in
-    let u : g .result .right ≡ true = not-false (g .result .right) (c .before .before .before .before .if2 .left) in
-    let had = granted _ _ (g .ensures .0) (c .before .before .before .before .if2 .left) in
-    accepted s (a .c) (a .n) (o .pre) t _ e had _ (g .ensures .1 .1 u) _ _ (c .before .before .before .rest-blank .ensures) (c .before .before .has-each-step .ensures)
-    (not-false _ (c .before .if3 .left)) (record { count = a .n; steps = g .result .steps; records = f .result .records }) refl (g .ensures .1 .0 u) e
+    let steps = g .ensures .1 .0 (not-false _ (c .before .before .before .before .if2 .left)) in
+    accepted (found (c .before .before)) (not-false _ (c .before .if3 .left)) _ refl steps refl
 
 pub judged-spec : {M : Type 1} → statement M
 judged-spec =

@@ -7,10 +7,9 @@ use lib.Dec.{eqb}
 use lib.ListN.{length}
 use borrow.Author.Needs.{needs}
 use borrow.Author.Tests.{eqb-true}
-use Rattle.octets.proofs.Tests.{said, denied, granted}
+use Rattle.octets.proofs.Tests.{both, said, denied, granted}
 use Rattle.store.specs.Blocks.{blocksFor}
 use Rattle.store.specs.Loaded.{countsRight}
-use Rattle.store.proofs.Below.{both}
 use Rattle.store.proofs.Reasons.{damaged, faulty, shape-wrong}
 use Rattle.store.proofs.loading.load.Statement.{statement}
 use Rattle.store.proofs.loading.load.Tie as tie

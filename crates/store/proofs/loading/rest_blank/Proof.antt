@@ -10,7 +10,7 @@ use Rattle.store.specs.Below.{everyBelow}
 use Rattle.store.specs.Blocks.{blocksFor}
 use Rattle.store.specs.Loaded.{restBlank}
 use Rattle.store.proofs.Below.{every-next, every-fails, every-all}
-use Rattle.store.proofs.Seats.{used-small}
+use Rattle.store.proofs.Contents.{used-fits}
 use Rattle.store.proofs.loading.rest_blank.Statement.{statement}
 use Rattle.store.proofs.loading.rest_blank.Tie as tie
 
@@ -26,7 +26,7 @@ loop-holds c = (c .blocks-for .ensures, omega arith, refl)
 add-is-blank : tie.Need-add-is-blank Inv-loop μ-loop
 add-is-blank c =
     let a = c .before .before .before .before .before .args in
-    omega (arith, used-small (a .c) (a .n) (c .before .before .loop .b), c .used-bytes .ensures)
+    omega (arith, used-fits (a .c) (a .n) (c .before .before .loop .b), c .used-bytes .ensures)
 
 returns : tie.Need-returns Inv-loop μ-loop
 returns c =

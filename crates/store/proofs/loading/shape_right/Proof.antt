@@ -4,7 +4,7 @@ use mathlib.Core.Bool.{true, false}
 use borrow.Author.Needs.{needs}
 use borrow.Author.Tests.{not-true, not-false}
 use Rattle.store.specs.Loaded.{countsRight}
-use Rattle.store.proofs.Seats.{counts}
+use Rattle.store.proofs.Fields.{counts}
 use Rattle.store.proofs.loading.shape_right.Statement.{statement}
 use Rattle.store.proofs.loading.shape_right.Tie as tie
 

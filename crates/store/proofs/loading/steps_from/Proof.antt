@@ -18,7 +18,7 @@ use Rattle.store.specs.Blocks.{stepPlace}
 use Rattle.store.specs.Loaded.{stepSlot, stepsTo}
 use Rattle.store.specs.Taken.{stepTaken}
 use Rattle.store.proofs.Below.{every-next, every-fails, every-all}
-use Rattle.store.proofs.Seats.{HasBits}
+use Rattle.store.proofs.Steps.{HasBits}
 use Rattle.store.proofs.Taking.{ReadStep, step-wrong, step-slot-small, step-alone, step-taken, step-stored, step-bit}
 use Rattle.store.proofs.loading.steps_from.Statement.{statement}
 use Rattle.store.proofs.loading.steps_from.Tie as tie
@@ -36,35 +36,34 @@ abbrev μ-loop : tie.MeasureT-loop
 loop-holds : tie.Need-loop-holds Inv-loop μ-loop
 loop-holds c = (omega arith, search needs, refl, rw (c .blank-step .ensures) (pad-none blankStep 64), has-none)
 
+-- the step that the loop looks at, once its fields and its fill are tested
+found :
+    (d : tie.After-is-blank Inv-loop μ-loop)
+    → ReadStep (now (d .before .before .before .before .before .before .before .before .args .s)) (d .before .before .before .before .before .before .before .before .args .c)
+    (d .before .before .before .before .before .loop .k) (d .before .before .before .step-place .result) (d .before .before .step-at .result) (d .before .step-right .result)
+    (d .is-blank .result)
+found d =
+    record {
+      at = d .before .before .before .step-place .ensures .0;
+      read = d .before .before .step-at .ensures;
+      right = d .before .step-right .ensures;
+      blank = d .is-blank .ensures;
+    }
+
 returns : tie.Need-returns Inv-loop μ-loop
 returns c =
     let d = c .before in
     let b = d .before .before .before .before .before in
     let a = b .before .before .before .args in
     let s = now (a .s) in
-    let i : ReadStep s (a .c) (b .loop .k) _ _ _ _ =
-    record {
-      at = d .before .before .before .step-place .ensures .0;
-      read = d .before .before .step-at .ensures;
-      right = d .before .step-right .ensures;
-      blank = d .is-blank .ensures;
-    } in
+    let i = found d in
     let e = step-wrong i (a .t4) (c .if1 .taken) in
     (sym (every-fails (taken s (a .t4) (a .c)) (a .n) (b .loop .k) (omega arith) e), (λ q. absurd (false≢true q), λ q. absurd (false≢true q)))
 
 element-copy-out-if2 : tie.Need-element-copy-out-if2 Inv-loop μ-loop
 element-copy-out-if2 c =
     let d = c .before .before in
-    let b = d .before .before .before .before .before in
-    let a = b .before .before .before .args in
-    let s = now (a .s) in
-    let i : ReadStep s (a .c) (b .loop .k) _ _ _ _ =
-    record {
-      at = d .before .before .before .step-place .ensures .0;
-      read = d .before .before .step-at .ensures;
-      right = d .before .step-right .ensures;
-      blank = d .is-blank .ensures;
-    } in
+    let i = found d in
     step-slot-small i (c .before .if1 .left)
 
 returns-2 : tie.Need-returns-2 Inv-loop μ-loop
@@ -73,29 +72,14 @@ returns-2 c =
     let b = d .before .before .before .before .before in
     let a = b .before .before .before .args in
     let s = now (a .s) in
-    let i : ReadStep s (a .c) (b .loop .k) _ _ _ _ =
-    record {
-      at = d .before .before .before .step-place .ensures .0;
-      read = d .before .before .step-at .ensures;
-      right = d .before .step-right .ensures;
-      blank = d .is-blank .ensures;
-    } in
+    let i = found d in
     let e = step-alone i (c .before .before .if1 .left) (a .t4) (b .loop .inv .1) _ (c .if2 .taken) in
     (sym (every-fails (taken s (a .t4) (a .c)) (a .n) (b .loop .k) (omega arith) e), (λ q. absurd (false≢true q), λ q. absurd (false≢true q)))
 
 with-bit-requires : tie.Need-with-bit-requires Inv-loop μ-loop
 with-bit-requires c κs =
     let d = c .before .before .before in
-    let b = d .before .before .before .before .before in
-    let a = b .before .before .before .args in
-    let s = now (a .s) in
-    let i : ReadStep s (a .c) (b .loop .k) _ _ _ _ =
-    record {
-      at = d .before .before .before .step-place .ensures .0;
-      read = d .before .before .step-at .ensures;
-      right = d .before .step-right .ensures;
-      blank = d .is-blank .ensures;
-    } in
+    let i = found d in
     let h = step-slot-small i (c .before .before .if1 .left) in
     omega (arith, h)
 
@@ -105,13 +89,7 @@ loop-again c =
     let b = d .before .before .before .before .before in
     let a = b .before .before .before .args in
     let s = now (a .s) in
-    let i : ReadStep s (a .c) (b .loop .k) _ _ _ _ =
-    record {
-      at = d .before .before .before .step-place .ensures .0;
-      read = d .before .before .step-at .ensures;
-      right = d .before .step-right .ensures;
-      blank = d .is-blank .ensures;
-    } in
+    let i = found d in
     let v = b .loop .inv in
     let e = step-taken i (c .before .before .before .if1 .left) (a .t4) (v .1) _ (c .before .if2 .left) in
     let stored = step-stored i (omega arith) in

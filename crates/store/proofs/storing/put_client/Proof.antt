@@ -3,7 +3,7 @@ use mathlib.Core.Path.{_≡_}
 use lib.ListN.{length}
 use denote.Ref.{now}
 use borrow.Author.Needs.{needs}
-use Rattle.store.proofs.Groups.{client-length, client-stored}
+use Rattle.store.proofs.Items.{client-length, client-stored}
 use Rattle.store.proofs.storing.put_client.Statement.{statement}
 use Rattle.store.proofs.storing.put_client.Tie as tie
 

@@ -9,7 +9,8 @@ use lib.Seq.{sets, length-sets, take-all}
 use denote.Ref.{now}
 use borrow.Author.Needs.{needs}
 use Rattle.store.specs.Stored.{slotsIn, clientsIn, joined}
-use Rattle.store.proofs.Groups.{item-start, item-next, item-more, item-end, part-length}
+use Rattle.store.proofs.Lists.{part-length}
+use Rattle.store.proofs.Groups.{item-start, item-next, item-more, item-end}
 use Rattle.store.proofs.Slots.{slots-few, slot-in, client-at}
 use Rattle.store.proofs.storing.put_clients.Statement.{statement}
 use Rattle.store.proofs.storing.put_clients.Tie as tie

@@ -7,9 +7,8 @@ use denote.Ref.{now}
 use borrow.Author.Needs.{needs}
 use Rattle.arrays.proofs.Pad.{length-mapped}
 use Rattle.store.specs.Blocks.{blocksFor}
-use Rattle.store.proofs.Groups.{used-clients, used-steps}
 use Rattle.store.proofs.Slots.{slots-few}
-use Rattle.store.proofs.Contents.{block-room, clients-room, steps-room, head-stored, head-length, content-clients, content-steps}
+use Rattle.store.proofs.Contents.{used-clients, used-steps, block-room, clients-room, steps-room, head-stored, head-length, content-clients, content-steps}
 use Rattle.store.proofs.storing.put_content.Statement.{statement}
 use Rattle.store.proofs.storing.put_content.Tie as tie
 

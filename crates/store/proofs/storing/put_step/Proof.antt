@@ -1,7 +1,7 @@
 -- `store::storing::put_step` meets its contract: the stores, one after the other, are the step's bytes.
 use denote.Ref.{now}
 use borrow.Author.Needs.{needs}
-use Rattle.store.proofs.Groups.{step-stored}
+use Rattle.store.proofs.Items.{step-stored}
 use Rattle.store.proofs.storing.put_step.Statement.{statement}
 use Rattle.store.proofs.storing.put_step.Tie as tie
 

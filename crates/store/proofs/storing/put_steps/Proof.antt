@@ -3,13 +3,15 @@
 use Prim.Native.Nat.{ℕ, _+_, _-_, _*_, _≤_, _<_}
 use native.Mathlib.Omega.{arith}
 use mathlib.Core.Path.{_≡_, refl, sym, ap, _∙_}
-use mathlib.Core.List.{List, map}
+use mathlib.Core.List.{List, [], map}
 use lib.ListN.{length, take, drop}
 use lib.Seq.{sets, length-sets, take-all}
 use denote.Ref.{now}
 use borrow.Author.Needs.{needs}
 use Rattle.store.specs.Stored.{stepBytes, joined}
-use Rattle.store.proofs.Groups.{step-length, item-start, item-next, item-more, item-end, part-length, part-at}
+use Rattle.store.proofs.Lists.{part-length, part-at}
+use Rattle.store.proofs.Groups.{item-start, item-next, item-more, item-end}
+use Rattle.store.proofs.Items.{step-length}
 use Rattle.store.proofs.storing.put_steps.Statement.{statement}
 use Rattle.store.proofs.storing.put_steps.Tie as tie
 
@@ -36,7 +38,7 @@ loop-again c =
     let h : l .j < a .n = omega arith in
     let items = take (a .n) (drop (a .k) (map stepBytes (a .t3))) in
     let less : l .j < length items = rw (part-length stepBytes (a .t3) (a .n) (a .k) fits) h in
-    let here = part-at stepBytes (a .t3) (a .n) (a .k) fits (l .j) _ h in (
+    let here = part-at stepBytes (a .t3) (a .n) (a .k) fits (l .j) _ [] h in (
       rw (c .before .before .put-step .ensures) (l .inv .0 ∙ item-next 16 items (a .i) (l .j) (l .out) _ less here (step-length _)),
       item-more 16 items (a .i) (l .j) (l .out) _ less here (step-length _) (l .inv .1),
       omega arith,

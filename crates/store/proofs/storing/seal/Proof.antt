@@ -1,7 +1,7 @@
 -- `store::storing::seal` meets its contract: the zeros and the check, one after the other, over what stands there.
 use denote.Ref.{now}
 use borrow.Author.Needs.{needs}
-use Rattle.store.proofs.Sealing.{sealed-stored}
+use Rattle.store.proofs.Blocks.{sealed-stored}
 use Rattle.store.proofs.storing.seal.Statement.{statement}
 use Rattle.store.proofs.storing.seal.Tie as tie
 

@@ -12,7 +12,7 @@ use Rattle.sequence.specs.Sequence.{lengthOf}
 use Rattle.store.specs.Blocks.{blocksFor}
 use Rattle.store.specs.Stored.{slotsIn, contentsOf, sealedFrom, storedOf, storedIn, storeBytes}
 use Rattle.store.proofs.Slots.{slots-few}
-use Rattle.store.proofs.Sealing.{block-stored}
+use Rattle.store.proofs.Blocks.{block-stored}
 use Rattle.store.proofs.Contents.{used-fits, block-room, stores-some, contents-count}
 use Rattle.store.proofs.storing.store.Statement.{statement}
 use Rattle.store.proofs.storing.store.Tie as tie
