@@ -25,7 +25,7 @@ use Rattle.store.specs.Blocks.{isDamaged, blocksFor, clientPlace, stepPl
 use Rattle.store.specs.Fields.{stepRight}
 use Rattle.store.specs.Stored.{slotsIn, storeBytes}
 use Rattle.store.specs.Loaded.{byteAt, clientAt, clientRight, stepAt, clientCount, stepCount, clientSlot, stepSlot, stepsTo, sequenceIn}
-use Rattle.store.specs.Loaded.{countsRight, areClientsRight, areStepsRight, isNoSlotTwice, hasEachRecord, hasEachStep, reasonsFor, isFaulty, loadNumber, loadedOf}
+use Rattle.store.specs.Loaded.{countsRight, areClientsRight, areStepsRight, isFillBlank, isNoSlotTwice, hasEachRecord, hasEachStep, reasonsFor, isFaulty, loadNumber, loadedOf}
 use Rattle.store.specs.Legal.{RightLabel, RightRecord, RightStep, Legal}
 use Rattle.store.specs.Promises.{Accepted}
 use Rattle.store.proofs.Below.{below-every, found-below}
@@ -98,17 +98,18 @@ module _ (s : List ℕ) where
   abbrev n : ℕ
   n = stepCount s
 
-  -- what is asked of the blocks, fill apart
-  record Faultless : Type 0 where
-    counts : countsRight c n ≡ true
-    blocks : length s ≡ 512 * blocksFor c n
-    clients : areClientsRight s c n ≡ true
-    steps : areStepsRight s c n ≡ true
-    once : isNoSlotTwice s c n ≡ true
-    each-record : hasEachRecord s c n ≡ true
-    each-step : hasEachStep s c n ≡ true
+  -- what is asked of the blocks
+  pub record Faultless : Type 0 where
+    pub counts : countsRight c n ≡ true
+    pub blocks : length s ≡ 512 * blocksFor c n
+    pub clients : areClientsRight s c n ≡ true
+    pub steps : areStepsRight s c n ≡ true
+    pub fill : isFillBlank s c n ≡ true
+    pub once : isNoSlotTwice s c n ≡ true
+    pub each-record : hasEachRecord s c n ≡ true
+    pub each-step : hasEachStep s c n ≡ true
 
-  faultless : isFaulty s ≡ false → Faultless
+  pub faultless : isFaulty s ≡ false → Faultless
   unfolding isFaulty
   faultless e =
       let h = none-passes (λ reason. reason) (reasonsFor s c n) e in
@@ -117,13 +118,14 @@ module _ (s : List ℕ) where
         blocks = eqb-true _ _ (not-false _ (h .1 .0));
         clients = not-false _ (h .1 .1 .0);
         steps = not-false _ (h .1 .1 .1 .0);
+        fill = not-false _ (h .1 .1 .1 .1 .0);
         once = not-false _ (h .1 .1 .1 .1 .1 .0);
         each-record = not-false _ (h .1 .1 .1 .1 .1 .1 .0);
         each-step = not-false _ (h .1 .1 .1 .1 .1 .1 .1 .0);
       }
 
   -- number 0 has none of the reasons for 17, and gives the sequence that the blocks say
-  no-fault : loadedOf s .number ≡ completed → isFaulty s ≡ false
+  pub no-fault : loadedOf s .number ≡ completed → isFaulty s ≡ false
   unfolding pick loadNumber loadedOf
   no-fault e = go (isDamaged s) (isFaulty s) e
     where
@@ -132,7 +134,7 @@ module _ (s : List ℕ) where
       go false true z = absurd (omega arith)
       go false false z = refl
 
-  said : loadedOf s .number ≡ completed → loadedOf s .sequence ≡ sequenceIn s
+  pub said : loadedOf s .number ≡ completed → loadedOf s .sequence ≡ sequenceIn s
   unfolding pick loadedOf
   said e = rw (eq-eqb (loadNumber s) completed e)
 
@@ -140,7 +142,7 @@ module _ (s : List ℕ) where
     in-counts : (1 ≤ c) × (c ≤ 8) × (1 ≤ n) × (n ≤ 64)
     in-counts = count-parts c n (f .counts)
 
-    client-right : (k : ℕ) → k < c → clientRight s (clientPlace k) ≡ true
+    pub client-right : (k : ℕ) → k < c → clientRight s (clientPlace k) ≡ true
     client-right = below-every (λ k. clientRight s (clientPlace k)) c (f .clients)
 
     step-right : (k : ℕ) → k < n → stepRight (stepAt s (stepPlace c k)) ≡ true
@@ -149,7 +151,7 @@ module _ (s : List ℕ) where
     abbrev q : Sequence
     q = sequenceIn s
 
-    steps-are : stepsOf q ≡ stepsTo s c n
+    pub steps-are : stepsOf q ≡ stepsTo s c n
     unfolding stepsOf sequenceIn
     steps-are =
         let e : length (stepsTo s c n) ≡ n = steps-length s c n in

@@ -23,7 +23,7 @@ module _ (s : List ℕ) (b : ℕ) where
   alike k h = let e : 0 + k ≡ k = omega arith in rw e (getD-take 512 (drop (512 * b) s) k 0 h ∙ getD-drop (512 * b) s k 0)
 
   -- its check is right, by the words of the whole
-  right : isIntact (b + 1) (blockAt s b) ≡ true → wordAt s (512 * b) 127 ≡ (sumAt s (512 * b) 127 + (b + 1)) % 4294967296
+  pub right : isIntact (b + 1) (blockAt s b) ≡ true → wordAt s (512 * b) 127 ≡ (sumAt s (512 * b) 127 + (b + 1)) % 4294967296
   unfolding checkAt
   right e =
       sym (word-moved (blockAt s b) s 0 (512 * b) 128 127 alike (omega arith)) ∙ eqb-true _ _ e
@@ -70,14 +70,14 @@ module _ (s : List ℕ) where
   unfolding pick loadNumber loadedOf
   damaged-number e = rw e
 
-  undamaged : (loadedOf s .number ≡ checkWrong → ⊥) → isDamaged s ≡ false
+  pub undamaged : (loadedOf s .number ≡ checkWrong → ⊥) → isDamaged s ≡ false
   undamaged h = go (isDamaged s) refl
     where
       go : (l : Bool) → isDamaged s ≡ l → l ≡ false
       go true e = absurd (h (damaged-number e))
       go false e = refl
 
-  all-intact : isDamaged s ≡ false → (b : ℕ) → b < length s / blockBytes → isIntact (b + 1) (blockAt s b) ≡ true
+  pub all-intact : isDamaged s ≡ false → (b : ℕ) → b < length s / blockBytes → isIntact (b + 1) (blockAt s b) ≡ true
   unfolding isDamaged
   all-intact e b h = not-false _ (below-none (λ j. not (isIntact (j + 1) (blockAt s j))) (length s / blockBytes) e b h)
 

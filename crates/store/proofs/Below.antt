@@ -11,7 +11,7 @@ use Rattle.arrays.proofs.Every.{neither}
 use Rattle.store.specs.Below.{everyBelow, someBelow}
 
 -- what is below n + 1 is below n, or is n
-below-cases : (P : ℕ → Type 0) (n k : ℕ) → k < suc n → (k < n → P k) → P n → P k
+pub below-cases : (P : ℕ → Type 0) (n k : ℕ) → k < suc n → (k < n → P k) → P n → P k
 below-cases P n k h f g = go (eqb k n) refl
   where
     go : (b : Bool) → eqb k n ≡ b → P k

@@ -20,10 +20,10 @@ use Rattle.store.proofs.Sets.{then-sets, stands, sets-same, sets-over}
 use Rattle.store.proofs.Checks.{check-fits, check-moved}
 use Rattle.store.proofs.Stands.{At, at-start, at-left, at-right, at-number, at-blank}
 
-length-filled : (content : List ℕ) → length (filled content) ≡ contentBytes
+pub length-filled : (content : List ℕ) → length (filled content) ≡ contentBytes
 length-filled content = length-pad 0 contentBytes content
 
-length-sealed : (number : ℕ) (content : List ℕ) → length (sealed number content) ≡ blockBytes
+pub length-sealed : (number : ℕ) (content : List ℕ) → length (sealed number content) ≡ blockBytes
 unfolding sealed
 length-sealed number content =
     length-append (filled content) (bytesOf 4 (checkAt (filled content) 0 number))

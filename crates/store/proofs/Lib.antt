@@ -22,3 +22,6 @@ pub mod Places
 pub mod Again
 pub mod Octets
 pub mod Example
+pub mod Found
+pub mod Rewritten
+pub mod Whole

@@ -30,7 +30,7 @@ pub record Written (s : List ℕ) (c n : ℕ) (cs ns : List (List ℕ)) : Type 0
 module _ {s : List ℕ} {c n : ℕ} {cs ns : List (List ℕ)} (W : Written s c n cs ns) where
   -- ---- how much of each block is used
 
-  length-content : (b : ℕ) → b < blocksFor c n → length (getD (contents c n cs ns) b []) ≡ usedBytes c n b
+  pub length-content : (b : ℕ) → b < blocksFor c n → length (getD (contents c n cs ns) b []) ≡ usedBytes c n b
   length-content zero h = length-head c n ∙ used-head c n 0 refl
   length-content (suc j) h =
       elim (decLe (suc j) (clientBlocks c)) [

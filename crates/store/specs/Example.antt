@@ -1,7 +1,6 @@
 -- Which byte is which field: the contents of a sequence's blocks in which no two fields are alike, and a block with its check.
-use Prim.Native.Nat.{ℕ}
 use mathlib.Core.Path.{_≡_}
-use mathlib.Core.List.{List, [], _∷_, _++_}
+use mathlib.Core.List.{[], _∷_, _++_}
 use lib.ListN.{replicate}
 use Rattle.client.specs.Records.{blankRecord}
 use Rattle.client.specs.declared.ClientRecord.{ClientRecord}

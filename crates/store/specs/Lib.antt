@@ -6,4 +6,5 @@ pub mod Loaded
 pub mod Taken
 pub mod Legal
 pub mod Example
+pub mod Whole
 pub mod Promises

@@ -13,7 +13,7 @@ use Rattle.store.specs.Blocks.{blockBytes}
 use Rattle.store.specs.Stored.{slotsIn, storedOf, storeBytes}
 use Rattle.store.specs.Loaded.{clientCount, stepCount, loadedOf}
 use Rattle.store.specs.Legal.{RightStep, Legal, Fits}
-use Rattle.store.specs.Example.{Layout}
+use Rattle.store.specs.{Whole.Whole, Example.Layout}
 
 -- word i of the bytes, counted from 0 through all blocks
 abbrev pub word : List ℕ → ℕ → ℕ
@@ -46,5 +46,7 @@ pub record Promises : Type 0 where
   pub length-stored : (q : Sequence) → Legal q → length (storedOf q) ≡ storeBytes q
   -- what is stored is bytes, each below 256, as `altered` asks
   pub bytes : (q : Sequence) → Legal q → Fits q → Bytes (storedOf q)
+  -- what is accepted is, byte for byte, what storing writes
+  pub whole : Whole
   -- which byte is which field, and the check of a block
   pub layout : Layout

@@ -1,0 +1,33 @@
+-- What loading accepts is, byte for byte, the blocks of the sequence that it gives: each count, each fill byte, each check and how many blocks there
+-- are. Only the order of the client records is free: they are stored lowest slot first, and read in any order.
+use Prim.Native.Nat.{ℕ}
+use mathlib.Core.Path.{_≡_}
+use mathlib.Core.List.{List, _∷_, _++_, map}
+use lib.ListN.{length, getD}
+use Rattle.octets.specs.Label.{rowOf}
+use Rattle.octets.specs.Numbers.{completed}
+use Rattle.octets.proofs.Laws.{Bytes}
+use Rattle.client.specs.Records.{blankRecord}
+use Rattle.sequence.specs.Sequence.{stepsOf}
+use Rattle.sequence.specs.declared.Sequence.{Sequence}
+use Rattle.store.specs.Blocks.{clientBlocks, stepBlocks}
+use Rattle.store.specs.Stored.{clientBytes, stepBytes, slotsIn, headOf, groups, sealedFrom, storedOf}
+use Rattle.store.specs.Loaded.{clientCount, clientSlot, loadedOf}
+
+-- the slots of the first k client records, as they stand
+abbrev pub slotsRead : List ℕ → ℕ → List ℕ
+slotsRead s k = rowOf k (clientSlot s)
+
+-- the blocks of a sequence, with its client records in this order of slots
+unfoldable pub storedBy : List ℕ → Sequence → List ℕ
+storedBy slots q =
+    sealedFrom 1
+    (headOf (length slots) (length (stepsOf q))
+    ∷ groups (clientBlocks (length slots)) 3 (map (λ slot. clientBytes slot (getD (q .records) slot blankRecord)) slots)
+    ++ groups (stepBlocks (length (stepsOf q))) 31 (map stepBytes (stepsOf q)))
+
+pub record Whole : Type 0 where
+  -- so accepted bytes that differ say two sequences, or one with its client records in two orders
+  pub exactly : (s : List ℕ) → Bytes s → loadedOf s .number ≡ completed → storedBy (slotsRead s (clientCount s)) (loadedOf s .sequence) ≡ s
+  -- the order in which storing writes them
+  pub lowest-first : (q : Sequence) → storedBy (slotsIn (q .records)) q ≡ storedOf q
