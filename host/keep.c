@@ -41,7 +41,10 @@ static bool keep_replaces(const char *path, struct fault *fault)
 {
     struct stat there;
 
-    return lstat(path, &there) != 0 || S_ISREG(there.st_mode) || fault_say(fault, FAULT_RUN, "%s is there and is no plain file: it stays", path);
+    if (lstat(path, &there) != 0) {
+        return errno == ENOENT || fault_say(fault, FAULT_RUN, "%s cannot be looked at: %s", path, strerror(errno));
+    }
+    return S_ISREG(there.st_mode) || fault_say(fault, FAULT_RUN, "%s is there and is no plain file: it stays", path);
 }
 
 /* All bytes, and onto the disk. A write may take fewer than it was given. */
@@ -137,10 +140,10 @@ bool keep_read(const char *path, uint8_t bytes[KEEP_BYTES], size_t *length, stru
 
 bool keep_refused(const char *path, size_t length, uint8_t number, struct fault *fault)
 {
-    const char *why = "the file is whole, but something else has written it, or a later version";
+    const char *why = "no block of it is damaged, but blocks are missing or left over, or something else has written it, or a later version";
 
     if (number == SCM_CHECK_WRONG) {
-        why = "the file is damaged, not the drill; take another copy of it";
+        why = "the file is damaged, or holds no sequence at all; take another copy of it";
     } else if (length == 0) {
         why = "the file is empty";
     } else if (length % SCM_BLOCK_BYTES != 0) {

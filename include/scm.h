@@ -1174,8 +1174,8 @@ SCM_MUST_USE static inline uint8_t scm_store(const scm_master *m, uint8_t *block
 
      0   the sequence is that of the blocks, step for step, with what they keep of its clients
      2   not in ready
-     16  the check of a block is wrong, of any whole block among the bytes: they are not what was written. The file is damaged, not the drill: take
-         another copy of it
+     16  the check of a block is wrong, of any whole block among the bytes: they are not what was written. The file is damaged, or holds no stored
+         sequence at all: take another copy of it
      17  every whole block has its check, and yet no sequence is stored so: len is 0 or no number of whole blocks, blocks are missing or left over, a
          count or a field is out of its range, a fill is not 0, a slot has two records, a step has no record of its client, or a record has no step.
          The file was cut, or written by something else or by a later version: do not mend it
@@ -1216,8 +1216,8 @@ typedef struct scm_check_view {
 /* What a sequence keeps of a client, as a host sees it. */
 typedef struct scm_client_view {
     uint8_t used;                   /* 1 where the sequence has a step of this slot, else 0 and all else 0 */
-    uint64_t name;                  /* the NAME that it was attached with when its first step was recorded */
-    uint64_t master_name;           /* the master NAME of its pool then */
+    uint64_t name;                  /* the NAME that it was attached with when its first step was recorded; of a loaded sequence what its blocks say */
+    uint64_t master_name;           /* the master NAME of its pool then; the same */
     uint8_t version_length;
     uint8_t version[63];
     uint8_t configuration_length;

@@ -164,7 +164,8 @@ doesKeepBy e (other n) = false
 abbrev pub doesKeep : Event → Bool
 doesKeep e = doesKeepBy e (sortOf e)
 
--- the run up to the call that ended the recording, that call, which may be its last indication, and the calls after it, which keep the sequence
+-- the run up to the call that ended the recording, that call, which may be its last indication, and the calls after it: at their end the sequence is
+-- the one that it kept
 pub record KeptBy (events : List Event) : Type 0 where
   pub before : List Event
   pub last : Event
@@ -176,7 +177,7 @@ pub record KeptBy (events : List Event) : Type 0 where
   pub sequence : run events .sequence ≡ run (before ++ last ∷ []) .sequence
   pub steps : Every (Traced (logWith before last)) (stepsOf (run events .sequence))
 
--- the run up to a load that was not refused, its blocks, and the calls after it, which keep the sequence
+-- the run up to a load that was not refused, its blocks, and the calls after it: at their end the sequence is this one
 pub record LoadedBy (events : List Event) : Type 0 where
   pub before : List Event
   pub blocks : List ℕ

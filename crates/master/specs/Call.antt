@@ -32,7 +32,7 @@ pub record Call : Type 0 where
   pub count : ℕ
   pub written : List ℕ
 
--- a call that takes nothing: it is barred, refused by its own rule, or done
+-- a call that is lent nothing to write in, and has neither message nor slot: it is barred, refused by its own rule, or done
 abbrev pub bare : List ℕ → Bool → ℕ → Master → Call
 bare numbers barred own after = record {
   numbers = numbers;

@@ -29,6 +29,6 @@ blankSequence = record { count = 0; steps = replicate mostSteps blankStep; recor
 abbrev pub lengthOf : Sequence → ℕ
 lengthOf q = min (q .count) mostSteps
 
--- the steps, in order of start
+-- the steps, in order of start, or of their blocks
 unfoldable pub stepsOf : Sequence → List Step
 stepsOf q = take (q .count) (q .steps)

@@ -1,4 +1,4 @@
--- What is always so of a sequence, recorded or none: its cells after the steps are blank, and exactly the slots of which there is a step have a record.
+-- What is always so of a sequence, recorded, loaded or none: its cells after the steps are blank, and exactly the slots of which there is a step have a record.
 use Prim.Native.Nat.{ℕ, _≤_, _<_}
 use mathlib.Core.Path.{_≡_}
 use mathlib.Core.Bool.{Bool, false}

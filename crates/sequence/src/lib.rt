@@ -1,4 +1,4 @@
-// A sequence: the steps that a recording has kept, and the records of their clients.
+// A sequence: the steps that a recording has kept or that blocks said, and the records of their clients.
 ghost use mathlib.Core.Path.{_≡_};
 ghost use Rattle.sequence.specs.Sequence.{blankStep, blankSequence, lengthOf};
 use arrays::at_most;
@@ -23,7 +23,7 @@ pub struct Step {
     pub mark: u32,
 }
 
-// The first count of steps are used, in the order of their start; records stand by slot. Unused cells are blank.
+// The first count of steps are used, in the order of their start, or of their blocks; records stand by slot. Unused cells are blank.
 #[repr(C)]
 pub struct Sequence {
     pub count: usize,

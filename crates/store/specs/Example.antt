@@ -1,6 +1,8 @@
--- Which byte is which field: the contents of a sequence's blocks in which no two fields are alike, and a block with its check.
+-- Which byte is which field: the contents of a sequence's blocks in which no two fields of a block, a client record or a step are alike, and a block with
+-- its check.
+use Prim.Native.Nat.{ℕ}
 use mathlib.Core.Path.{_≡_}
-use mathlib.Core.List.{[], _∷_, _++_}
+use mathlib.Core.List.{List, [], _∷_, _++_}
 use lib.ListN.{replicate}
 use Rattle.client.specs.Records.{blankRecord}
 use Rattle.client.specs.declared.ClientRecord.{ClientRecord}
@@ -9,7 +11,7 @@ use Rattle.sequence.specs.declared.Step.{Step}
 use Rattle.sequence.specs.declared.Sequence.{Sequence}
 use Rattle.store.specs.Stored.{contentsOf, sealed}
 
--- the client in slot 3, with labels "AB" and "CDE"
+-- the client in slot 5, with labels "AB" and "CDE"
 abbrev pub sampleClient : ClientRecord
 sampleClient = record {
   used = 1;
@@ -20,31 +22,36 @@ sampleClient = record {
 }
 
 abbrev pub sampleStep : Step
-sampleStep = record { slot = 3; function = 0x21; state = 0x22; distance = 1; value = 0x34333231; mark = 0x44434241 }
+sampleStep = record { slot = 5; function = 0x21; state = 0x22; distance = 1; value = 0x34333231; mark = 0x44434241 }
 
 abbrev pub sampleSequence : Sequence
 sampleSequence = record {
-  count = 1;
-  steps = sampleStep ∷ replicate 63 blankStep;
-  records = blankRecord ∷ blankRecord ∷ blankRecord ∷ sampleClient ∷ replicate 4 blankRecord;
+  count = 4;
+  steps = sampleStep ∷ sampleStep ∷ sampleStep ∷ sampleStep ∷ replicate 60 blankStep;
+  records = replicate 5 blankRecord ++ sampleClient ∷ replicate 2 blankRecord;
 }
+
+-- slot, function, state, 1 for millimetres; mark; value; four zeros
+abbrev pub sampleBytes : List ℕ
+sampleBytes =
+    5 ∷ 0x21 ∷ 0x22 ∷ 1 ∷ []
+    ++ 0x41 ∷ 0x42 ∷ 0x43 ∷ 0x44 ∷ []
+    ++ 0x31 ∷ 0x32 ∷ 0x33 ∷ 0x34 ∷ []
+    ++ 0 ∷ 0 ∷ 0 ∷ 0 ∷ []
 
 pub record Layout : Type 0 where
   -- "the first holds the client records' count and the step count, then client records, then steps"
   pub contents : contentsOf sampleSequence ≡
       -- counts of client records and of steps
-      (1 ∷ 0 ∷ 0 ∷ 0 ∷ 1 ∷ 0 ∷ 0 ∷ 0 ∷ [])
+      (1 ∷ 0 ∷ 0 ∷ 0 ∷ 4 ∷ 0 ∷ 0 ∷ 0 ∷ [])
       -- slot, lengths of both labels, zero; NAME; master NAME; version label and zero; configuration label and zero
-      ∷ (3 ∷ 2 ∷ 3 ∷ 0 ∷ []
+      ∷ (5 ∷ 2 ∷ 3 ∷ 0 ∷ []
       ++ 0x01 ∷ 0x02 ∷ 0x03 ∷ 0x04 ∷ 0x05 ∷ 0x06 ∷ 0x07 ∷ 0x08 ∷ []
       ++ 0x11 ∷ 0x12 ∷ 0x13 ∷ 0x14 ∷ 0x15 ∷ 0x16 ∷ 0x17 ∷ 0x18 ∷ []
       ++ 0x41 ∷ 0x42 ∷ replicate 62 0
       ++ 0x43 ∷ 0x44 ∷ 0x45 ∷ replicate 61 0)
-      -- slot, function, state, 1 for millimetres; mark; value; four zeros
-      ∷ (3 ∷ 0x21 ∷ 0x22 ∷ 1 ∷ []
-      ++ 0x41 ∷ 0x42 ∷ 0x43 ∷ 0x44 ∷ []
-      ++ 0x31 ∷ 0x32 ∷ 0x33 ∷ 0x34 ∷ []
-      ++ replicate 4 0)
+      -- the steps, one after the other
+      ∷ (sampleBytes ++ sampleBytes ++ sampleBytes ++ sampleBytes)
       ∷ []
   -- "each block filled with zeros. The last four bytes are the wrapping sum of the block's 127 leading 32-bit words and its number from 1.": the words
   -- 04030201 and FFFFFFFF, and block 5

@@ -46,7 +46,7 @@ pub record Promises : Type 0 where
   pub length-stored : (q : Sequence) → Legal q → length (storedOf q) ≡ storeBytes q
   -- what is stored is bytes, each below 256, as `altered` asks
   pub bytes : (q : Sequence) → Legal q → Fits q → Bytes (storedOf q)
-  -- what is accepted is, byte for byte, what storing writes
+  -- what is accepted is, byte for byte, what storing writes, but for the order of its client records
   pub whole : Whole
   -- which byte is which field, and the check of a block
   pub layout : Layout
