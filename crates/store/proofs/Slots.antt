@@ -1,4 +1,4 @@
--- Laws of the slots of which there is a client record: at most eight, each below eight, lowest first, what the loop that looks for them has found, and
+-- Laws of the slots of which there is a client record: at most eight, each below eight, none twice, what the loop that looks for them has found, and
 -- one slot more.
 use Prim.Native.Nat.{ℕ, zero, suc, _+_, _≤_, _<_}
 use native.Mathlib.Numerals.{add-one}
@@ -79,9 +79,9 @@ module _ (records : List ClientRecord) where
   unfolding slotsIn
   slots-few = those-short (isThere records) (from 0 8)
 
-  pub slots-rising : EveryTwo _<_ (slotsIn records)
+  pub slots-once : EveryTwo (λ a b. a ≡ b → ⊥) (slotsIn records)
   unfolding slotsIn
-  slots-rising = pairs-those _<_ (isThere records) (from 0 8) (omega arith, omega arith)
+  slots-once = pairs-those (λ a b. a ≡ b → ⊥) (isThere records) (from 0 8) (omega arith, omega arith)
 
   -- what holds of each of them
   pub slots-pass : {Q : ℕ → Type 0} → ((slot : ℕ) → slot < 8 → isThere records slot ≡ true → Q slot) → Every Q (slotsIn records)

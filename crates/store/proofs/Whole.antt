@@ -14,9 +14,8 @@ use Rattle.octets.specs.Octets.{bytesOf}
 use Rattle.octets.proofs.{Laws.Bytes, Laws.length-bytes, Cells.length-cells, Cells.cell, Tests.both}
 use Rattle.arrays.proofs.Every.{every-map}
 use Rattle.sequence.specs.Sequence.{blankStep}
-use Rattle.sequence.specs.declared.Sequence.{Sequence}
 use Rattle.store.specs.Blocks.{blockBytes, isDamaged, clientBlocks, stepBlocks, blocksFor, clientPlace, stepPlace, wordAt, checkAt}
-use Rattle.store.specs.Stored.{clientBytes, stepBytes, slotsIn, headOf, sealedFrom, contentsOf, storedOf}
+use Rattle.store.specs.Stored.{clientBytes, stepBytes, headOf, sealedFrom}
 use Rattle.store.specs.Loaded.{clientBlank, clientCount, stepCount, clientSlot, clientAt, stepAt, stepBlank, stepsTo, restBlank, sequenceIn, loadedOf}
 use Rattle.store.specs.Below.{everyBelow}
 use Rattle.store.specs.Whole.{slotsRead, storedBy, Whole}
@@ -32,6 +31,7 @@ use Rattle.store.proofs.Steps.{steps-length, every-step}
 use Rattle.store.proofs.Records.{hasSlot, recordTo, record-some}
 use Rattle.store.proofs.Altered.{right, undamaged, all-intact}
 use Rattle.store.proofs.Accepted.{Faultless, faultless, no-fault, said, client-right, steps-are}
+use Rattle.store.proofs.Again.{lowest-first, any-order}
 use Rattle.store.proofs.Found.{is-whole, both-there, number-there, group-there, blocks-there}
 use Rattle.store.proofs.Rewritten.{client-wide, client-there, step-there, block-there}
 
@@ -192,9 +192,5 @@ exactly s B e =
     let differ : loadedOf s .number ≡ checkWrong → ⊥ = λ z. omega (arith, e, z) in
     rw (said s e) (rewritten s B (faultless s (no-fault s e)) (undamaged s differ))
 
-lowest-first : (q : Sequence) → storedBy (slotsIn (q .records)) q ≡ storedOf q
-unfolding storedBy storedOf contentsOf
-lowest-first q = refl
-
 pub whole : Whole
-whole = record { exactly = exactly; lowest-first = lowest-first }
+whole = record { exactly = exactly; lowest-first = lowest-first; any-order = any-order }
