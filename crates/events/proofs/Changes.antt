@@ -15,6 +15,7 @@ use Rattle.client.specs.Clients as client
 use Rattle.client.specs.Clients.{slotCount, isEnabled, blankSlot}
 use Rattle.client.specs.declared.Client.{Client}
 use Rattle.sequence.specs.Sequence.{lastTick}
+use Rattle.sequence.specs.declared.Sequence.{Sequence}
 use Rattle.store.specs.Loaded.{loadNumber, loadedOf}
 use Rattle.recording.specs.State.{blankRecording}
 use Rattle.recording.specs.Indication as indications
@@ -56,6 +57,11 @@ heardIn m slot msg = indications.heardOf (m .recording) slot (slotAt m slot) (eq
 abbrev pub tickedIn : Master → ℕ → Ticked
 tickedIn m mm = playback.tickOf (m .playback) (m .sequence) (m .tan) mm
 
+-- what a call puts in the place of the sequence
+pub data Replaces (m : Master) : Event → Sequence → Type 0 where
+  -- the one that blocks say
+  loaded : (blocks : List ℕ) → loadNumber blocks ≡ 0 → Replaces m (load blocks) (loadedOf blocks .sequence)
+
 pub data Change (m : Master) : Event → Master → Type 0 where
   -- a slot at most
   rested : {e : Event} {n : Master} → Near m n → (isRecording m ≡ true → whichCall e ≡ 1 → ⊥) → Change m e n
@@ -83,8 +89,8 @@ pub data Change (m : Master) : Event → Master → Type 0 where
   playTicksLast : (mm : ℕ) (out : List ℕ) → isPlaying m ≡ true → Change m (tick mm out) (ended m state.abort)
   playHears : (slot : ℕ) (msg out : List ℕ) → isPlaying m ≡ true → Change m (answer slot msg out) (withPlayback m (m .tan) (answered m slot msg .playback))
   playHearsLast : (slot : ℕ) (msg out : List ℕ) (s : ℕ) → isPlaying m ≡ true → Rests s → s ≤ state.abort → Change m (answer slot msg out) (ended m s)
-  -- the sequence is replaced by the one that blocks say
-  loaded : (blocks : List ℕ) → m .state ≡ state.ready → loadNumber blocks ≡ 0 → Change m (load blocks) (withSequence m (loadedOf blocks .sequence))
+  -- the sequence is replaced, in ready
+  replaced : {e : Event} {q : Sequence} → m .state ≡ state.ready → Replaces m e q → Change m e (withSequence m q)
 
 -- ---- states
 

@@ -6,7 +6,7 @@ use mathlib.Core.List.{List, [], _∷_, _++_}
 use Rattle.client.specs.Clients.{slotCount}
 use Rattle.client.specs.declared.Client.{Client}
 use Rattle.sequence.specs.Sequence.{lastTick}
-use Rattle.store.specs.Loaded.{loadNumber, loadedOf}
+use Rattle.sequence.specs.declared.Sequence.{Sequence}
 use Rattle.recording.specs.State.{blankRecording}
 use Rattle.recording.specs.Indication.{countedRecording}
 use Rattle.playback.specs.State.{goesOn, blankPlayback}
@@ -19,7 +19,7 @@ use Rattle.master.specs.Playback.{answered}
 use Rattle.master.proofs.Calls.{passed}
 use Rattle.events.specs.Events.{Event, callOf, apply, runFrom, Given}
 use Rattle.events.proofs.Calls.{either-way}
-use Rattle.events.proofs.Changes.{Near, itself, slotted, heardIn, tickedIn, Change, rested, moved, dropped, broken, recordStarts, recordWaits, recordEnds, recordHears, recordHearsLast, recordTicks, playStarts, playTicks, playTicksLast, playHears, playHearsLast, loaded}
+use Rattle.events.proofs.Changes.{Near, itself, slotted, heardIn, tickedIn, Replaces, Change, rested, moved, dropped, broken, recordStarts, recordWaits, recordEnds, recordHears, recordHearsLast, recordTicks, playStarts, playTicks, playTicksLast, playHears, playHearsLast, replaced}
 use Rattle.events.proofs.Rows.{row}
 
 -- what a call that is done does to the master
@@ -58,9 +58,8 @@ pub record Invariant (P : Master → Type 0) : Type 0 where
   pub starts : (m : Master) → P m → P (withPlayback m (m .tan) blankPlayback)
   pub ticks : (m : Master) (mm : ℕ) → mm ≤ 65535 → tickedIn m mm .end ≡ goesOn → P m → P (withPlayback m (tickedIn m mm .tan) (tickedIn m mm .playback))
   pub answers : (m : Master) (slot : ℕ) (msg : List ℕ) → P m → P (withPlayback m (m .tan) (answered m slot msg .playback))
-  -- the sequence is replaced by the one that blocks say
-  pub loads :
-      (m : Master) (blocks : List ℕ) → Given m → m .state ≡ states.ready → loadNumber blocks ≡ 0 → P m → P (withSequence m (loadedOf blocks .sequence))
+  -- the sequence is replaced
+  pub replaces : (m : Master) (e : Event) (q : Sequence) → Given m → m .state ≡ states.ready → Replaces m e q → P m → P (withSequence m q)
 
 module _ (P : Master → Type 0) (k : Invariant P) where
   near : (m n : Master) → Near m n → P m → P n
@@ -83,7 +82,7 @@ module _ (P : Master → Type 0) (k : Invariant P) where
   changed m e n g (playTicksLast mm out p) h = k .over m states.abort (omega arith) h
   changed m e n g (playHears slot msg out p) h = k .answers m slot msg h
   changed m e n g (playHearsLast slot msg out s p r l) h = k .over m s l h
-  changed m e n g (loaded blocks r z) h = k .loads m blocks g r z h
+  changed m e n g (replaced r x) h = k .replaces m e _ g r x h
 
   pub always : P newMaster → (m : Master) → Given m → P m
   always = given-by P (λ m e g z h. changed m e _ g (done-change m e z) h)

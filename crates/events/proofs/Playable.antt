@@ -39,7 +39,7 @@ use Rattle.master.specs.Messages.{executionIn}
 use Rattle.master.proofs.Calls.{passed, below}
 use Rattle.events.specs.Events.{Event, on, off, «record», stop, cancel, start, abort, attach, enable, disable, report, lost, indication, clientAbort, tick, answer, store, load, callOf, Given, recordAt}
 use Rattle.events.proofs.Choices.{chosen, chosen-by, either}
-use Rattle.events.proofs.Changes.{Near, itself, slotted, Change, rested, moved, dropped, broken, recordStarts, recordWaits, recordEnds, recordHears, recordHearsLast, recordTicks, playStarts, playTicks, playTicksLast, playHears, playHearsLast, loaded, not-recording}
+use Rattle.events.proofs.Changes.{Near, itself, slotted, Change, rested, moved, dropped, broken, recordStarts, recordWaits, recordEnds, recordHears, recordHearsLast, recordTicks, playStarts, playTicks, playTicksLast, playHears, playHearsLast, replaced, not-recording}
 use Rattle.events.proofs.Invariant.{done-change, given-by, Invariant, always}
 use Rattle.events.proofs.Calls.{number-is}
 use Rattle.events.proofs.Starts.{start-exactly}
@@ -69,7 +69,7 @@ eight = record {
   starts = λ m h. h;
   ticks = λ m mm l e h. h;
   answers = λ m i msg h. h;
-  loads = λ m blocks g r z h. h;
+  replaces = λ m e q g r x h. h;
 }
 
 new-eight : length (newMaster .slots) ≡ 8
@@ -263,7 +263,7 @@ begins m e n (playTicks mm out p l t) g z h w = absurd (h w)
 begins m e n (playTicksLast mm out p) g z h w = absurd (omega arith)
 begins m e n (playHears slot msg out p) g z h w = absurd (h w)
 begins m e n (playHearsLast slot msg out s p r l) g z h w = absurd (r .2 w)
-begins m e n (loaded blocks r x) g z h w = absurd (h w)
+begins m e n (replaced r x) g z h w = absurd (h w)
 
 keeps : (m : Master) (e : Event) → Given m → numberOf (callOf m e) ≡ 0 → AllPlayable m → AllPlayable (callOf m e .after)
 unfolding Stays

@@ -37,9 +37,10 @@ use Rattle.master.specs.Messages.{executionIn, replyIn}
 use Rattle.master.specs.States as state
 use Rattle.master.specs.States.{newMaster, withRecording, withPlayback, ended}
 use Rattle.master.specs.Recording.{recordingEnded}
-use Rattle.events.specs.Events.{Given}
+use Rattle.events.specs.Events.{Event, Given}
 use Rattle.events.specs.Demand1.{Counted, NeverCut, NeverBites}
 use Rattle.events.proofs.Choices.{chosen, chosen-by}
+use Rattle.events.proofs.Changes.{Replaces, loaded}
 use Rattle.events.proofs.Invariant.{Invariant, always}
 use Rattle.events.proofs.Rest.{given-blank}
 use Rattle.events.proofs.Loads.{sound-loaded}
@@ -187,6 +188,10 @@ played-in :
     (m : Master) (tan : ℕ) (p : Playback) → Regular m → RegularPlayback p → p .sent ≤ m .sequence .count → tan ≤ 255 → Regular (withPlayback m tan p)
 played-in m tan p h k l few = record { recording = h .recording; sequence = h .sequence; playback = k; sent = l; state = h .state; tan = few }
 
+-- what replaces a sound sequence is sound
+sound-replaced : (m : Master) (e : Event) (q : Sequence) → Replaces m e q → SoundSequence (m .sequence) → SoundSequence q
+sound-replaced m e q (loaded blocks z) s = sound-loaded blocks z
+
 stay-regular : Invariant Regular
 unfolding ended recordingEnded Goes SameCounts
 stay-regular = record {
@@ -211,9 +216,9 @@ stay-regular = record {
   answers = λ m i msg h.
       played-in m (m .tan) _ h (answered-regular (m .playback) (m .sequence) i (replyIn msg) (h .playback))
       (rw (answered-sent (m .playback) (m .sequence) i (replyIn msg)) (h .sent)) (h .tan);
-  loads = λ m blocks g r z h.
+  replaces = λ m e q g r x h.
       let none : m .playback ≡ blankPlayback = given-blank m g .playback (λ p. omega (arith, r, p)) in
-      record { recording = h .recording; sequence = sound-loaded blocks z; playback = h .playback; sent = rw none (none-sent _); state = h .state; tan = h .tan };
+      record { recording = h .recording; sequence = sound-replaced m e q x (h .sequence); playback = h .playback; sent = rw none (none-sent _); state = h .state; tan = h .tan };
 }
 
 new-regular : Regular newMaster

@@ -14,7 +14,7 @@ use Rattle.master.specs.States as state
 use Rattle.master.specs.States.{isRecording, isPlaying, newMaster, withState, withRecording, withPlayback, ended}
 use Rattle.master.specs.Recording.{recordingEnded}
 use Rattle.events.specs.Events.{Event, Given}
-use Rattle.events.proofs.Changes.{Near, itself, slotted, Rests, Change, rested, moved, dropped, broken, recordStarts, recordWaits, recordEnds, recordHears, recordHearsLast, recordTicks, playStarts, playTicks, playTicksLast, playHears, playHearsLast, loaded, one-of, not-playing}
+use Rattle.events.proofs.Changes.{Near, itself, slotted, Rests, Change, rested, moved, dropped, broken, recordStarts, recordWaits, recordEnds, recordHears, recordHearsLast, recordTicks, playStarts, playTicks, playTicksLast, playHears, playHearsLast, replaced, one-of, not-playing}
 use Rattle.events.proofs.Invariant.{given-by, done-change}
 
 pub record Blank (m : Master) : Type 0 where
@@ -65,7 +65,7 @@ changed m e n (playTicks mm out p l t) h = playback-on m h p _ _
 changed m e n (playTicksLast mm out p) h = over m 5
 changed m e n (playHears slot msg out p) h = playback-on m h p _ _
 changed m e n (playHearsLast slot msg out s p r l) h = over m s
-changed m e n (loaded blocks r z) h = record { recording = h .recording; playback = h .playback }
+changed m e n (replaced r x) h = record { recording = h .recording; playback = h .playback }
 
 new-blank : Blank newMaster
 unfolding newMaster

@@ -32,7 +32,7 @@ use Rattle.events.specs.Events.{Event, on, off, «record», stop, cancel
 use Rattle.events.specs.Demand1.{isAmong}
 use Rattle.events.proofs.Outside.{operator, clientAborts}
 use Rattle.events.proofs.Choices.{chosen, chosen-by}
-use Rattle.events.proofs.Changes.{Rests, low, passes, Change, itself, rested, moved, dropped, broken, recordStarts, playStarts, loaded, slot-change, stopped-change, lost-change, reported-change, heard-change, ticked-change, replied-change}
+use Rattle.events.proofs.Changes.{Rests, low, passes, Change, itself, rested, moved, dropped, broken, recordStarts, playStarts, loaded, replaced, slot-change, stopped-change, lost-change, reported-change, heard-change, ticked-change, replied-change}
 
 -- ---- numbers
 
@@ -160,4 +160,4 @@ row m (store out) =
     is m (store out) (λ s h. rw s) (λ _. refl) never never refl (pick-both (Named m (store out)) _ refl refl) (λ p. rested itself (λ _ z. omega arith))
 row m (load blocks) =
     is m (load blocks) (λ s h. rw s) never never never refl (pick-both (Named m (load blocks)) _ refl (pick-both (Named m (load blocks)) _ refl refl))
-    (λ p. loaded blocks (eqb-true _ _ (not-false _ (p .allowed))) (p .goes))
+    (λ p. replaced (eqb-true _ _ (not-false _ (p .allowed))) (loaded blocks (p .goes)))

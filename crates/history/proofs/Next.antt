@@ -17,6 +17,7 @@ use Rattle.profile.specs.declared.Profile.{Profile}
 use Rattle.client.specs.Clients.{isTaken}
 use Rattle.client.specs.Records.{recordOf}
 use Rattle.sequence.specs.Sequence.{stepsOf}
+use Rattle.sequence.specs.declared.Sequence.{Sequence}
 use Rattle.store.specs.Loaded.{loadedOf}
 use Rattle.recording.specs.State.{blankRecording}
 use Rattle.recording.specs.Indication.{heldOf}
@@ -35,7 +36,7 @@ use Rattle.master.proofs.Calls.{passed, below}
 use Rattle.events.specs.Events.{Event, indication, load, Sort, stops, hears, ticks, answers, loads, other, sortOf, numberBy, callOf, apply, run}
 use Rattle.events.proofs.Calls.{number-is, either-way}
 use Rattle.events.proofs.Choices.{either}
-use Rattle.events.proofs.Changes.{Rests, low, heardIn, Change, rested, moved, dropped, broken, recordStarts, recordWaits, recordEnds, recordHears, recordHearsLast, recordTicks, playStarts, playTicks, playTicksLast, playHears, playHearsLast, loaded, not-recording}
+use Rattle.events.proofs.Changes.{Rests, low, heardIn, Replaces, loaded, Change, rested, moved, dropped, broken, recordStarts, recordWaits, recordEnds, recordHears, recordHearsLast, recordTicks, playStarts, playTicks, playTicksLast, playHears, playHearsLast, replaced, not-recording}
 use Rattle.events.proofs.Invariant.{done-change}
 use Rattle.events.proofs.Regular.{given-regular}
 use Rattle.history.specs.Runs.{isDone}
@@ -228,6 +229,12 @@ module _ (before : List Event) (log : List Entry) (g : Good (run before) log) wh
   in-play : isPlaying here ≡ true → isRecording here ≡ true → ⊥
   in-play p i = true≢false (sym i ∙ not-recording here p)
 
+  -- what replaces the sequence
+  replaced-by :
+      (e : Event) (q : Sequence) (new : List Entry) → apply here e .number ≡ 0 → Replaces here e q
+      → SequenceAfter here e (log ++ new) (withSequence here q)
+  replaced-by e q new w (loaded blocks z) = nowLoaded blocks refl w refl
+
   changed : (e : Event) (n : Master) → apply here e .number ≡ 0 → Change here e n → Next here e log (brings e) n
   changed e n w (rested x y) =
       let a = alike here n x in
@@ -262,7 +269,10 @@ module _ (before : List Event) (log : List Entry) (g : Good (run before) log) wh
   changed e n w (playTicksLast mm out p) = over here log g e _ here state.abort refl refl (λ z. in-play p (z .0))
   changed e n w (playHears slot msg out p) = quiet here log g e [] n refl refl refl refl (λ z. in-play p (z .0))
   changed e n w (playHearsLast slot msg out t p r l) = over here log g e _ here t refl (is-not t r) (λ z. in-play p (z .0))
-  changed e n w (loaded blocks r z) = record { good = same-good here log g e [] n refl refl refl; sequence = nowLoaded blocks refl w refl }
+  changed e n w (replaced r x) = record {
+    good = same-good here log g e (brings e) n refl refl (silent-by before log e (sortOf e) (λ i _. not-ready here i r));
+    sequence = replaced-by e _ (brings e) w x;
+  }
 
   pub apply-next : (e : Event) → Next here e log (brings e) (apply here e .master)
   apply-next e =

@@ -19,7 +19,7 @@ use Rattle.master.proofs.Reading.{heard-recording}
 use Rattle.events.specs.Events.{Event, stop, indication, Sort, stops, hears, ticks, answers, loads, other, sortOf, numberBy, whichCall, callOf, apply, run}
 use Rattle.events.proofs.Calls.{number-is, after-is, either-way}
 use Rattle.events.proofs.Choices.{chosen, chosen-by}
-use Rattle.events.proofs.Changes.{heardIn, Change, rested, moved, dropped, broken, recordStarts, recordWaits, recordEnds, recordHears, recordHearsLast, recordTicks, playStarts, playTicks, playTicksLast, playHears, playHearsLast, loaded, not-playing}
+use Rattle.events.proofs.Changes.{heardIn, Change, rested, moved, dropped, broken, recordStarts, recordWaits, recordEnds, recordHears, recordHearsLast, recordTicks, playStarts, playTicks, playTicksLast, playHears, playHearsLast, replaced, not-playing}
 use Rattle.events.proofs.Invariant.{done-change}
 use Rattle.history.specs.Runs.{Succeeds}
 use Rattle.history.specs.Steps.{isAnyOpen}
@@ -126,7 +126,7 @@ module _ (k : Master) (w : Waits k) where
   waits-still x n (playTicksLast mm out p) a b z = over k state.abort (λ q. omega arith) z
   waits-still x n (playHears slot msg out p) a b z = in-play p z
   waits-still x n (playHearsLast slot msg out s p r l) a b z = over k s (r .1) z
-  waits-still x n (loaded blocks r q) a b z = w z
+  waits-still x n (replaced r y) a b z = w z
 
   waits-stopped : Waits (stopped k)
   unfolding Waits stopped

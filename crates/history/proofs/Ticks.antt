@@ -24,7 +24,7 @@ use Rattle.master.proofs.Calls.{passed}
 use Rattle.events.specs.Events.{Event, on, off, «record», stop, cancel, start, abort, attach, enable, disable, report, lost, indication, clientAbort, tick, answer, store, load, Sort, stops, hears, ticks, answers, loads, other, sortOf, numberBy, whichCall, callOf, apply, run}
 use Rattle.events.proofs.Calls.{number-is, after-is, either-way}
 use Rattle.events.proofs.Choices.{chosen, chosen-by, either}
-use Rattle.events.proofs.Changes.{low, Change, rested, moved, dropped, broken, recordStarts, recordWaits, recordEnds, recordHears, recordHearsLast, recordTicks, playStarts, playTicks, playTicksLast, playHears, playHearsLast, loaded, not-recording}
+use Rattle.events.proofs.Changes.{low, Change, rested, moved, dropped, broken, recordStarts, recordWaits, recordEnds, recordHears, recordHearsLast, recordTicks, playStarts, playTicks, playTicksLast, playHears, playHearsLast, replaced, not-recording}
 use Rattle.events.proofs.Invariant.{done-change}
 use Rattle.events.proofs.Regular.{never-cut}
 use Rattle.history.specs.Runs.{Succeeds, isDone}
@@ -85,7 +85,7 @@ module _ (m : Master) where
   uncounted e n (playTicksLast mm out p) i a b = over m state.abort refl i
   uncounted e n (playHears slot msg out p) i a b = in-play p i
   uncounted e n (playHearsLast slot msg out s p r l) i a b = over m s (is-not s r) i
-  uncounted e n (loaded blocks r z) i a b = record { recording = i; same-ticks = refl; same-distance = refl }
+  uncounted e n (replaced r x) i a b = record { recording = i; same-ticks = refl; same-distance = refl }
 
 -- ---- a tick
 

@@ -13,7 +13,7 @@ use Rattle.master.specs.Recording.{recordingEnded}
 use Rattle.events.specs.Events.{Event, start, callOf, apply, runFrom, Given}
 use Rattle.events.proofs.Calls.{number-is, after-is}
 use Rattle.events.proofs.Choices.{either}
-use Rattle.events.proofs.Changes.{Near, itself, slotted, Change, rested, moved, dropped, broken, recordStarts, recordWaits, recordEnds, recordHears, recordHearsLast, recordTicks, playStarts, playTicks, playTicksLast, playHears, playHearsLast, loaded}
+use Rattle.events.proofs.Changes.{Near, itself, slotted, Change, rested, moved, dropped, broken, recordStarts, recordWaits, recordEnds, recordHears, recordHearsLast, recordTicks, playStarts, playTicks, playTicksLast, playHears, playHearsLast, replaced}
 use Rattle.events.proofs.Invariant.{done-change, given-by}
 use Rattle.plays.specs.Plays.{Started, Playing, Lasts}
 use Rattle.plays.proofs.Runs.{run-append, lasts-last, lasts-append}
@@ -52,7 +52,7 @@ module _ (m : Master) (np : ¬ Playing m) where
   only-start e n (playTicksLast mm out i) p = not-playing i
   only-start e n (playHears slot msg out i) p = not-playing i
   only-start e n (playHearsLast slot msg out s i r l) p = not-playing i
-  only-start e n (loaded blocks r z) p = absurd (np p)
+  only-start e n (replaced r x) p = absurd (np p)
 
 -- ---- along every run
 

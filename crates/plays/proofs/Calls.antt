@@ -25,7 +25,7 @@ use Rattle.events.specs.Events.{Event, tick, answer, Sort, stops, hears, ticks,
 use Rattle.events.specs.Events as events
 use Rattle.events.proofs.Outside.{Outside}
 use Rattle.events.proofs.Calls.{either-way}
-use Rattle.events.proofs.Changes.{Near, itself, slotted, Change, rested, moved, dropped, broken, recordStarts, recordWaits, recordEnds, recordHears, recordHearsLast, recordTicks, playStarts, playTicks, playTicksLast, playHears, playHearsLast, loaded, not-recording}
+use Rattle.events.proofs.Changes.{Near, itself, slotted, Change, rested, moved, dropped, broken, recordStarts, recordWaits, recordEnds, recordHears, recordHearsLast, recordTicks, playStarts, playTicks, playTicksLast, playHears, playHearsLast, replaced, not-recording}
 use Rattle.events.proofs.Invariant.{done-change}
 use Rattle.plays.specs.Plays.{Playing, tickBy, tickIn}
 use Rattle.playback.specs.State.{goesOn, toReady, toAbort}
@@ -68,7 +68,7 @@ module _ (m : Master) (h : Playing m) where
   changed e n a (playTicksLast mm out p) = absurd (a .0 refl)
   changed e n a (playHears slot msg out p) = absurd (a .1 refl)
   changed e n a (playHearsLast slot msg out s p r l) = absurd (a .1 refl)
-  changed e n a (loaded blocks r z) = absurd (omega (arith, r, h))
+  changed e n a (replaced r x) = absurd (omega (arith, r, h))
 
   -- refused, or done
   pub stays : (e : Event) → Aside e → Stays m e (apply m e .master)

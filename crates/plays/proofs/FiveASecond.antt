@@ -33,7 +33,7 @@ use Rattle.replay.proofs.Cells.{marked-left, marked-tan}
 use Rattle.events.specs.Events.{Event, on, off, «record», stop, cancel, start, abort, attach, enable, disable, report, lost, indication, clientAbort, tick, answer, store, load, Sort, stops, hears, ticks, answers, loads, other, sortOf, numberBy, whichCall, callOf, apply, lentAfter, runFrom, Given}
 use Rattle.events.proofs.Calls.{number-is, same-master, after-is, count-is, either-way}
 use Rattle.events.proofs.Choices.{chosen, either}
-use Rattle.events.proofs.Changes.{Near, itself, slotted, Change, rested, moved, dropped, broken, recordStarts, recordWaits, recordEnds, recordHears, recordHearsLast, recordTicks, playStarts, playTicks, playTicksLast, playHears, playHearsLast, loaded}
+use Rattle.events.proofs.Changes.{Near, itself, slotted, Change, rested, moved, dropped, broken, recordStarts, recordWaits, recordEnds, recordHears, recordHearsLast, recordTicks, playStarts, playTicks, playTicksLast, playHears, playHearsLast, replaced}
 use Rattle.events.proofs.Invariant.{done-change, given-next}
 use Rattle.plays.specs.Plays.{Started, Playing, Lasts, tickIn, ticksIn, tanOf, commandOf}
 use Rattle.plays.specs.Frames.{Leaves, FramesAt, frameAt}
@@ -162,7 +162,7 @@ calm-changed m e n a (playTicks mm out p l t) = absurd (a refl)
 calm-changed m e n a (playTicksLast mm out p) = absurd (a refl)
 calm-changed m e n a (playHears slot msg out p) = record { tan = refl; cells = answered-kept (m .playback) (m .sequence) slot (replyIn msg) }
 calm-changed m e n a (playHearsLast slot msg out s p r l) = blank m n refl refl
-calm-changed m e n a (loaded blocks r z) = still m n refl refl
+calm-changed m e n a (replaced r x) = still m n refl refl
 
 calm : (m : Master) (e : Event) → (whichCall e ≡ 2 → ⊥) → Calm m (apply m e .master)
 calm m e a = either-way m (callOf m e) (Calm m) (λ _. still m m refl refl) (λ z. calm-changed m e _ a (done-change m e z))

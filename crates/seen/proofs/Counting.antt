@@ -19,7 +19,7 @@ use Rattle.master.specs.Recording.{recordingEnded}
 use Rattle.events.specs.Events.{Event, tick, callOf, apply, runFrom}
 use Rattle.events.proofs.Choices.{chosen, chosen-by}
 use Rattle.events.proofs.Calls.{number-is, either-way}
-use Rattle.events.proofs.Changes.{Near, itself, slotted, tickedIn, Change, rested, moved, dropped, broken, recordStarts, recordWaits, recordEnds, recordHears, recordHearsLast, recordTicks, playStarts, playTicks, playTicksLast, playHears, playHearsLast, loaded}
+use Rattle.events.proofs.Changes.{Near, itself, slotted, tickedIn, Change, rested, moved, dropped, broken, recordStarts, recordWaits, recordEnds, recordHears, recordHearsLast, recordTicks, playStarts, playTicks, playTicksLast, playHears, playHearsLast, replaced}
 use Rattle.events.proofs.Invariant.{done-change}
 use Rattle.events.proofs.Regular.{answered-sent}
 use Rattle.seen.specs.Words.{Done}
@@ -102,7 +102,7 @@ changed m e n z (playTicksLast mm out p) = over m e m 5 itself
 changed m e n z (playHears slot msg out p) =
     quiet m e _ (let s = answered-sent (m .playback) (m .sequence) slot (replyIn msg) in omega arith) refl
 changed m e n z (playHearsLast slot msg out s p r l) = over m e m s itself
-changed m e n z (loaded blocks r x) = quiet m e _ (omega arith) refl
+changed m e n z (replaced r x) = quiet m e _ (omega arith) refl
 
 counted : (m : Master) (e : Event) → Counts m e (apply m e .master)
 counted m e =

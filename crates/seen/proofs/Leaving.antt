@@ -30,7 +30,7 @@ use Rattle.master.specs.Messages.{executionIn}
 use Rattle.events.specs.Events.{Event, on, off, «record», stop, cancel, start, abort, attach, enable, disable, report, lost, indication, clientAbort, tick, answer, store, load, callOf, apply}
 use Rattle.events.proofs.Choices.{chosen, chosen-by, either, is-false, is-true}
 use Rattle.events.proofs.Calls.{after-is, same-master, either-way}
-use Rattle.events.proofs.Changes.{Near, itself, slotted, Change, rested, moved, dropped, broken, recordStarts, recordWaits, recordEnds, recordHears, recordHearsLast, recordTicks, playStarts, playTicks, playTicksLast, playHears, playHearsLast, loaded, one-of, passes, reported-number, heardIn}
+use Rattle.events.proofs.Changes.{Near, itself, slotted, loaded, Change, rested, moved, dropped, broken, recordStarts, recordWaits, recordEnds, recordHears, recordHearsLast, recordTicks, playStarts, playTicks, playTicksLast, playHears, playHearsLast, replaced, one-of, passes, reported-number, heardIn}
 use Rattle.events.proofs.Invariant.{done-change}
 use Rattle.events.proofs.Regular.{Regular, given-regular}
 use Rattle.events.proofs.Rows.{plays}
@@ -91,7 +91,7 @@ changed m e n (playTicks mm out p l t) h k j = refl
 changed m e n (playTicksLast mm out p) h k j = refl
 changed m e n (playHears slot msg out p) h k j = refl
 changed m e n (playHearsLast slot msg out s p r l) h k j = refl
-changed m e n (loaded blocks r z) h k j = absurd (j blocks refl)
+changed m e n (replaced r (loaded blocks z)) h k j = absurd (j blocks refl)
 
 module _ (m : Master) (r : Regular m) (other : m .state ≡ 4 → ⊥) where
   still : isPlaying m ≡ false
