@@ -29,9 +29,11 @@ extern "C" {
     fn scm_master_answer(m: Master, slot: usize, msg: *const u8, msg_len: usize, out: *mut u8, out_len: usize) -> Outcome;
     fn scm_master_store(m: Master, blocks: *mut u8, blocks_len: usize) -> Outcome;
     fn scm_master_load(m: Master, blocks: *const u8, blocks_len: usize) -> Outcome;
+    fn scm_master_edition(m: Master, edition: u32) -> Outcome;
     fn scm_master_state(state: u8) -> u8;
     fn scm_master_slot(m: Master, slot: usize) -> SlotResult;
     fn scm_master_step_count(sequence: Sequence) -> usize;
+    fn scm_master_sequence_edition(sequence: Sequence) -> u32;
     fn scm_master_step(sequence: Sequence, i: usize) -> StepResult;
     fn scm_master_client(sequence: Sequence, slot: usize) -> ClientResult;
     fn scm_master_progress(state: u8, recording: Recording, playback: Playback) -> ProgressView;
@@ -92,6 +94,10 @@ pub fn slot(m: &Master, slot: usize) -> SlotResult {
 
 pub fn step_count(m: &Master) -> usize {
     unsafe { hand_over(scm_master_step_count as *const (), &m.sequence, [0; 6])[0] as usize }
+}
+
+pub fn sequence_edition(m: &Master) -> u32 {
+    unsafe { hand_over(scm_master_sequence_edition as *const (), &m.sequence, [0; 6])[0] as u32 }
 }
 
 /// A struct of 16 bytes comes back in the two registers.
@@ -162,6 +168,7 @@ pub fn event(event: &Event, m: &Master, out: &mut [u8], outcome: &mut Outcome) {
         Event::Answer { slot, .. } => (scm_master_answer as _, [slot, i, length, o, room]),
         Event::Store { .. } => (scm_master_store as _, [o, room, 0, 0, 0]),
         Event::Load { .. } => (scm_master_load as _, [i, length, 0, 0, 0]),
+        Event::Edition { edition } => (scm_master_edition as _, [edition as usize, 0, 0, 0, 0]),
     };
     let [a, b, c, d, e] = others;
     unsafe { hand_over(call, m, [outcome as *mut Outcome as usize, a, b, c, d, e]) };

@@ -75,7 +75,8 @@ const ATTACH_STACK: usize = 135_168;
 const VERIFY_COPIES: f64 = 2.0;
 const VERIFY_STACK: usize = 73_728;
 /// The readers that are handed the parts of a master that they read, and the most of both for them; so much stack for an object too.
-const READERS: [&str; 7] = ["scm_state", "scm_step_count", "scm_step", "scm_client", "scm_progress", "scm_taken", "scm_sent"];
+const READERS: [&str; 8] =
+    ["scm_state", "scm_step_count", "scm_sequence_edition", "scm_step", "scm_client", "scm_progress", "scm_taken", "scm_sent"];
 const PART_COPIES: f64 = 0.2;
 const PART_STACK: usize = 5_120;
 const OBJECTS: [&str; 2] = ["scm_object_at", "scm_object_write"];

@@ -52,6 +52,11 @@ pub fn rows() -> Vec<Row> {
 
 type Named = (&'static str, &'static str, Pair, Event);
 
+/// Its sequence in edition 2.
+fn second(pair: Pair) -> Pair {
+    pair.after(Event::Edition { edition: 2 })
+}
+
 fn playback_events() -> Vec<Named> {
     let all = playing(64, 15);
     let last = answer(&all, Status::Finished);
@@ -69,6 +74,7 @@ fn playback_events() -> Vec<Named> {
         ("scm_answer", "to the last of 64 steps", all.clone(), last),
         ("scm_answer", "to the only step, playback ends", one, ends),
         ("scm_start", "8 clients, 64 steps", recorded(8, 64), Event::Start),
+        ("scm_start", "8 clients, 64 steps, edition 2", second(recorded(8, 64)), Event::Start),
         ("scm_start", "1 client, 1 step", recorded(1, 1), Event::Start),
         ("scm_abort", "", all.clone(), Event::Abort),
         ("scm_client_abort", "", all.clone(), client_abort),
@@ -126,7 +132,10 @@ fn storing_events() -> Vec<Named> {
         ("scm_load", "the same into a master without one", ready(), load(blocks)),
         ("scm_load", "1 client, 1 step: 3 blocks", least, load(few)),
         ("scm_load", "the last of 7 checks is wrong", largest.clone(), load(wrong)),
-        ("scm_load", "the last fill of 7 blocks is not zero", largest, load(filled)),
+        ("scm_load", "the last fill of 7 blocks is not zero", largest.clone(), load(filled)),
+        ("scm_edition", "8 clients, 64 steps", largest.clone(), Event::Edition { edition: 2 }),
+        ("scm_edition", "no sequence", ready(), Event::Edition { edition: 2 }),
+        ("scm_edition", "unknown", largest, Event::Edition { edition: 3 }),
     ]
 }
 
@@ -140,6 +149,7 @@ fn readers() -> Vec<Row> {
         row(("scm_state", ""), 0, pair.clone(), |pair| u64::from(handed::state(&pair.library)), model_state),
         row(("scm_slot", ""), whole, pair.clone(), |pair| library_slot(&pair.library), model_slot),
         row(("scm_step_count", ""), sequence, pair.clone(), |pair| handed::step_count(&pair.library) as u64, model_count),
+        row(("scm_sequence_edition", ""), sequence, pair.clone(), |pair| handed::sequence_edition(&pair.library).into(), model_edition),
         row(("scm_step", "the last of 64"), sequence, pair.clone(), |pair| library_step(&pair.library), model_step),
         row(("scm_client", ""), client, pair.clone(), |pair| library_client(&pair.library), model_client),
     ];
@@ -159,12 +169,13 @@ fn progress_readers() -> Vec<Row> {
     ]
 }
 
-/// Every check holds, or the last one does not.
+/// Every check holds, by the rule of either edition, or the last one does not.
 fn verifications(pair: Pair) -> Vec<Row> {
     let structs = size_of::<Master>() + size_of::<CheckResult>();
     let late = pair.clone().after(Event::Report { slot: 7, report: 2 });
     vec![
-        row(("scm_verify", "8 clients, 64 steps"), structs, pair, library_verify, model_verify),
+        row(("scm_verify", "8 clients, 64 steps"), structs, pair.clone(), library_verify, model_verify),
+        row(("scm_verify", "8 clients, 64 steps, edition 2"), structs, second(pair), library_verify, model_verify),
         row(("scm_verify", "the last check does not hold"), structs, late, library_verify, model_verify),
     ]
 }
@@ -179,6 +190,10 @@ fn model_state(pair: &Pair) -> u64 {
 
 fn model_count(pair: &Pair) -> u64 {
     pair.model.sequence.steps.len() as u64
+}
+
+fn model_edition(pair: &Pair) -> u64 {
+    pair.model.sequence.edition.into()
 }
 
 fn library_slot(master: &Master) -> u64 {

@@ -50,14 +50,14 @@ pub struct Times {
 
 /// Measures and prints the times.
 pub fn times(rows: &mut [Row]) -> Vec<Times> {
-    println!("{:18} {:38} {:>10} {:>10} {:>7}", "call", "", "library µs", "model µs", "ratio");
+    println!("{:20} {:38} {:>10} {:>10} {:>7}", "call", "", "library µs", "model µs", "ratio");
     rows.iter_mut().map(times_of).collect()
 }
 
 fn times_of(row: &mut Row) -> Times {
     let times = least(&mut [&mut *row.library, &mut *row.model]);
     let (library, model) = (times[0], times[1]);
-    println!("{:18} {:38} {:10.3} {:10.3} {:7.2}", row.call, row.case, library / 1_000.0, model / 1_000.0, library / model);
+    println!("{:20} {:38} {:10.3} {:10.3} {:7.2}", row.call, row.case, library / 1_000.0, model / 1_000.0, library / model);
     Times { library, model }
 }
 
@@ -69,7 +69,7 @@ pub struct Bytes {
 
 /// Counts and prints the bytes. Threads are started here, which makes emulators slower: this comes after all times.
 pub fn bytes(rows: &mut [Row]) -> Vec<Bytes> {
-    println!("{:18} {:38} {:>7} {:>12} {:>17}", "call", "", "copies", "stack bytes", "with its structs");
+    println!("{:20} {:38} {:>7} {:>12} {:>17}", "call", "", "copies", "stack bytes", "with its structs");
     rows.iter_mut().map(bytes_of).collect()
 }
 
@@ -79,6 +79,6 @@ fn bytes_of(row: &mut Row) -> Bytes {
     let copies = (10.0 * moved::taken() as f64 / size_of::<Master>() as f64).round() / 10.0;
     let own = stack::bytes(&mut *row.library);
     let stack = own + row.structs;
-    println!("{:18} {:38} {copies:7.1} {own:12} {stack:17}", row.call, row.case);
+    println!("{:20} {:38} {copies:7.1} {own:12} {stack:17}", row.call, row.case);
     Bytes { copies, stack }
 }

@@ -10,7 +10,7 @@ const struct event_form event_forms[EVENT_KINDS] = {
     [EVENT_RECORD] = {"record", "", NULL}, [EVENT_STOP] = {"stop", "", NULL}, [EVENT_CANCEL] = {"cancel", "", NULL},
     [EVENT_INDICATION] = {"indication", "sb", "E.5"}, [EVENT_CLIENT_ABORT] = {"client_abort", "sb", NULL}, [EVENT_START] = {"start", "", NULL},
     [EVENT_ABORT] = {"abort", "", NULL}, [EVENT_TICK] = {"tick", "m", NULL}, [EVENT_ANSWER] = {"answer", "sb", "E.8"},
-    [EVENT_STORE] = {"store", "l", NULL}, [EVENT_LOAD] = {"load", "k", NULL},
+    [EVENT_STORE] = {"store", "l", NULL}, [EVENT_LOAD] = {"load", "k", NULL}, [EVENT_EDITION] = {"edition", "e", NULL},
 };
 
 #define ALIKE 8u                    /* of blocks, which are mostly 0, so many bytes alike in a row are written as one, with their number */
@@ -41,12 +41,22 @@ static uint8_t event_start(scm_master *m, struct event_outcome *o)
     return number;
 }
 
-/* The sequence is the one of the blocks. How many steps it has is read where it was taken up. */
+/* The sequence is the one of the blocks. How many steps it has, and its edition, is read where it was taken up. */
 static uint8_t event_load(scm_master *m, const struct event *e, struct event_outcome *o)
 {
     uint8_t number = scm_load(m, e->bytes, e->length);
 
     o->steps = number == SCM_OK ? scm_step_count(m) : 0;
+    o->edition = number == SCM_OK ? scm_sequence_edition(m) : 0;
+    return number;
+}
+
+/* The edition is read where it was set. */
+static uint8_t event_edition(scm_master *m, const struct event *e, struct event_outcome *o)
+{
+    uint8_t number = scm_edition(m, e->edition);
+
+    o->edition = number == SCM_OK ? scm_sequence_edition(m) : 0;
     return number;
 }
 
@@ -72,6 +82,7 @@ static uint8_t event_call(scm_master *m, const struct event *e, struct event_out
     case EVENT_ANSWER: return scm_answer(m, e->slot, e->bytes, e->length, o->out, sizeof o->out);
     case EVENT_STORE: return scm_store(m, o->blocks, e->lent, &o->written);
     case EVENT_LOAD: return event_load(m, e, o);
+    case EVENT_EDITION: return event_edition(m, e, o);
     default: return SCM_WRONG_VALUE;
     }
 }
@@ -119,6 +130,7 @@ void event_write(FILE *log, const struct event *e)
         case 'n': fprintf(log, " %016" PRIX64, e->name); break;
         case 'r': fprintf(log, " %s", scm_report_text(e->report)); break;
         case 'm': fprintf(log, " %" PRIu32, e->mm); break;
+        case 'e': fprintf(log, " %" PRIu32, e->edition); break;
         case 'l': fprintf(log, e->lent < SCM_STORE_BYTES ? " %" PRIu32 : "", e->lent); break;
         default: break;                                     /* bytes come last */
         }
@@ -168,7 +180,7 @@ static void event_add_blocks(struct event_text *text, const struct event_outcome
 }
 
 /* The number in words, and what belongs to it: code and object of a refused pool, slot and step at which a start was refused, the bytes stored, the
-   steps loaded. */
+   steps loaded, the edition loaded or set. */
 static void event_add_number(struct event_text *text, const struct event_outcome *o)
 {
     event_add(text, "#= %u %s", (unsigned)o->number, scm_number_text(o->number));
@@ -189,6 +201,9 @@ static void event_add_number(struct event_text *text, const struct event_outcome
     }
     if (o->steps > 0) {
         event_add(text, ", %zu step%s", o->steps, o->steps == 1 ? "" : "s");
+    }
+    if (o->edition > 0) {
+        event_add(text, ", edition %" PRIu32, o->edition);
     }
     event_add(text, o->number == SCM_NOT_EXPECTED ? ": send a NACK\n" : "\n");
 }

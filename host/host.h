@@ -55,7 +55,7 @@ void pool_shown_text(const struct pool *pool, uint8_t function, uint32_t value, 
 
 enum event_kind {
     EVENT_ON, EVENT_OFF, EVENT_ATTACH, EVENT_ENABLE, EVENT_DISABLE, EVENT_REPORT, EVENT_LOST, EVENT_RECORD, EVENT_STOP, EVENT_CANCEL, EVENT_INDICATION,
-    EVENT_CLIENT_ABORT, EVENT_START, EVENT_ABORT, EVENT_TICK, EVENT_ANSWER, EVENT_STORE, EVENT_LOAD, EVENT_KINDS
+    EVENT_CLIENT_ABORT, EVENT_START, EVENT_ABORT, EVENT_TICK, EVENT_ANSWER, EVENT_STORE, EVENT_LOAD, EVENT_EDITION, EVENT_KINDS
 };
 
 struct event {                      /* fields that its kind does not have are not looked at */
@@ -65,6 +65,7 @@ struct event {                      /* fields that its kind does not have are no
     uint8_t report;                 /* report: SCM_REPORT_... */
     uint32_t mm;                    /* tick: driven since the last one */
     uint32_t lent;                  /* store: the bytes that are lent, at most SCM_STORE_BYTES */
+    uint32_t edition;               /* edition: SCM_EDITION_..., or what is none */
     const uint8_t *bytes;           /* attach: the pool; indication, client_abort and answer: the message; load: the blocks */
     size_t length;
 };
@@ -84,11 +85,13 @@ struct event_outcome {              /* what came of an event; what it does not h
     size_t written;                 /* store: the bytes of the blocks */
     uint8_t blocks[SCM_STORE_BYTES];
     size_t steps;                   /* load: the steps of the sequence that was taken up */
+    uint32_t edition;               /* load and edition: that of the sequence afterwards */
 };
 
 struct event_form {                 /* how an event stands in a file of events */
     const char *word;
-    const char *fields;             /* s slot, n NAME, r report, m millimetres, b bytes, k blocks or none, l bytes lent, all where none are named */
+    const char *fields;             /* s slot, n NAME, r report, m millimetres, e edition, b bytes, k blocks or none, l bytes lent, all where none are
+                                       named */
     const char *message;            /* the one that its outcome sends, or NULL */
 };
 
@@ -183,6 +186,7 @@ struct sheet_plot {
 struct sheet {
     const struct pool *clients;
     size_t steps;
+    uint32_t edition;
     scm_step_view recorded[SCM_STEPS];
     size_t plots;                   /* begun; the last one is the one that is driven */
     struct sheet_plot plot[SHEET_PLOTS];
@@ -229,10 +233,14 @@ struct terminal {
 bool terminal_make(struct terminal *terminal, FILE *log, struct fault *fault);
 /* The drill is attached, and one plot end is recorded. */
 bool terminal_september(struct terminal *terminal, uint32_t depth, struct fault *fault);
+/* Binds the sequence to the drill that recorded it. */
+bool terminal_bind(struct terminal *terminal, struct fault *fault);
 /* Keeps the sequence in a file. */
 bool terminal_save(struct terminal *terminal, const char *path, struct fault *fault);
-/* The drill is attached again, and the sequence is taken up from a file and verified: a start would be taken. */
+/* The drill is attached again, and the sequence is taken up from a file. */
 bool terminal_march(struct terminal *terminal, const char *path, struct fault *fault);
+/* For the screen, before the driver starts: whether a start of what was taken up would be taken, and if not, which client or step stands against it. */
+bool terminal_verified(const struct terminal *terminal, const char *path, struct fault *fault);
 /* The sequence is replayed at twenty plot ends. */
 bool terminal_play(struct terminal *terminal, struct sheet *sheet, struct fault *fault);
 /* Replays by the clock for so many seconds; then the operator stops. */

@@ -5,13 +5,13 @@
 #include "host.h"
 
 static const char usage[] =
-    "usage: terminal [--sheets] [--save FILE] [DEPTH [LATEST.svg [SLOWEST.svg]]]\n"
+    "usage: terminal [--sheets] [--bind] [--save FILE] [DEPTH [LATEST.svg [SLOWEST.svg]]]\n"
     "                                play the drill: the inspector's answers and a line for each plot, with --sheets every step of every plot, and\n"
-    "                                pictures of two plots; the depth is 0 to 1000 tenths of a millimetre, or else 240; with --save the recorded\n"
-    "                                sequence is kept in a file\n"
-    "       terminal [--sheets] --load FILE [LATEST.svg [SLOWEST.svg]]\n"
+    "                                pictures of two plots; the depth is 0 to 1000 tenths of a millimetre, or else 240; with --bind the recorded\n"
+    "                                sequence is bound to the drill, with --save it is kept in a file\n"
+    "       terminal [--sheets] [--bind [--save FILE]] --load FILE [LATEST.svg [SLOWEST.svg]]\n"
     "                                the same with a sequence that was kept, and none recorded\n"
-    "       terminal --log [--save FILE] DEPTH, terminal --log --load FILE\n"
+    "       terminal --log [--bind] [--save FILE] DEPTH, terminal --log [--bind [--save FILE]] --load FILE\n"
     "                                the same, but print the events\n"
     "       terminal --mishaps       what goes wrong on a field, and how the terminal goes on, as events\n"
     "       terminal --live SECONDS  replay by the clock, for 1 to 3600 seconds\n"
@@ -54,7 +54,7 @@ static bool main_picture(const char *path, const struct sheet *sheet, enum pictu
 
 /* How the drill is played: what stands before the depth and the pictures. */
 struct options {
-    bool sheets, log;
+    bool sheets, log, bind;
     const char *save, *load;        /* the file to keep the sequence in, or to take it up from; or NULL */
 };
 
@@ -72,33 +72,40 @@ static bool main_options(int *count, char ***words, struct options *options, str
             options->sheets = true;
         } else if (strcmp(word, "--log") == 0) {
             options->log = true;
+        } else if (strcmp(word, "--bind") == 0) {
+            options->bind = true;
         } else {
             break;
         }
     }
-    return !((options->save != NULL && options->load != NULL) || (options->log && (options->sheets || *count != (options->load == NULL))))
+    return !((options->save != NULL && options->load != NULL && !options->bind)
+             || (options->log && (options->sheets || *count != (options->load == NULL))))
         || fault_say(fault, FAULT_USAGE, "options that do not go together, or words that they lack");
 }
 
-/* The sequence, from a recording or from a file. What is said of the file goes to standard error: what is printed is the sheet alone. */
-static bool main_sequence(struct terminal *terminal, const struct options *options, uint32_t depth, struct fault *fault)
+/* What is said of a file goes to standard error: what is printed is the sheet alone. Always gives true. */
+static bool main_says(const scm_master *master, const char *path, const char *what)
 {
-    const char *path = options->load != NULL ? options->load : options->save;
     scm_client_view client;
     unsigned clients = 0;
 
-    if (options->load != NULL ? !terminal_march(terminal, path, fault)
-                              : !terminal_september(terminal, depth, fault) || (path != NULL && !terminal_save(terminal, path, fault))) {
-        return false;
-    }
     for (size_t slot = 0; slot < SCM_SLOTS; slot++) {
-        clients += scm_client(&terminal->master, slot, &client) == SCM_OK && client.used == 1;
+        clients += scm_client(master, slot, &client) == SCM_OK && client.used == 1;
     }
-    if (path != NULL) {
-        fprintf(stderr, "terminal: %s: %zu steps of %u clients, %s\n", path, scm_step_count(&terminal->master), clients,
-                options->load != NULL ? "verified: a start would be taken" : "kept");
-    }
+    fprintf(stderr, "terminal: %s: %zu steps of %u clients, edition %" PRIu32 ", %s\n", path, scm_step_count(master), clients,
+            scm_sequence_edition(master), what);
     return true;
+}
+
+/* The sequence, from a recording or from a file. It is bound before it is verified and kept. */
+static bool main_sequence(struct terminal *terminal, const struct options *options, uint32_t depth, struct fault *fault)
+{
+    const char *load = options->load, *save = options->save;
+
+    return (load != NULL ? terminal_march(terminal, load, fault) : terminal_september(terminal, depth, fault))
+        && (!options->bind || terminal_bind(terminal, fault))
+        && (load == NULL || (terminal_verified(terminal, load, fault) && main_says(&terminal->master, load, "verified: a start would be taken")))
+        && (save == NULL || (terminal_save(terminal, save, fault) && main_says(&terminal->master, save, "kept")));
 }
 
 /* The words are a depth, but for a sequence from a file, and the paths of pictures, as many as are given. */

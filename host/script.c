@@ -110,6 +110,7 @@ static bool script_field(struct script *script, char field, char **rest, struct 
     case 'n': return script_name(word, &event->name, fault);
     case 'r': return script_report(word, &event->report, fault);
     case 'm': return script_number(word, &event->mm, fault);
+    case 'e': return script_number(word, &event->edition, fault);
     case 'l': return script_lent(word, &event->lent, fault);
     case 'k': return word == NULL || script_bytes(word, script->bytes, &event->length, fault);
     default:

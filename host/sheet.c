@@ -8,7 +8,7 @@ bool sheet_recorded(struct sheet *sheet, const struct pool *clients, const scm_m
 {
     bool ok = true;
 
-    *sheet = (struct sheet){.clients = clients, .steps = scm_step_count(master)};
+    *sheet = (struct sheet){.clients = clients, .steps = scm_step_count(master), .edition = scm_sequence_edition(master)};
     for (size_t i = 0; ok && i < sheet->steps; i++) {
         ok = fault_unless_done(fault, "step", scm_step(master, i, &sheet->recorded[i]))
           && (sheet->recorded[i].slot < POOL_CLIENTS || fault_say(fault, FAULT_RUN, "step %zu is of a client that the drill does not have", i + 1));
@@ -276,7 +276,9 @@ static void sheet_print_sheets(FILE *f, const struct sheet *sheet)
     char shown[POOL_TEXT_BYTES];
 
     fprintf(f, "\nA step is due at the first tick that reaches its mark. Its command leaves, is repeated at every second tick until its client answers, and\n"
-            "is done when the client says so.\n\nThe plot end as recorded\n  step  client             function       recorded       shown    mark\n");
+            "is done when the client says so.\n\nThe plot end as recorded, edition %" PRIu32 ": %s\n"
+            "  step  client             function       recorded       shown    mark\n",
+            sheet->edition, sheet->edition == SCM_EDITION_2 ? "bound to the drill that recorded it" : "masks and master NAMEs say who may replay it");
     for (size_t i = 0; i < sheet->steps; i++) {
         const scm_step_view *s = &sheet->recorded[i];
         sheet_print_step(f, sheet, i, s->value, shown);

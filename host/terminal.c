@@ -1,5 +1,5 @@
-/* A terminal over include/scm.h, to try and to copy. It plays a drill of two clients: records one plot end, or takes it up from a file, and replays it
-   at twenty. */
+/* A terminal over include/scm.h, to try and to copy. It plays a drill of two clients: records one plot end, or takes it up from a file, binds it to the
+   drill where that is wanted, and replays it at twenty. */
 #include <stdarg.h>
 #include <string.h>
 
@@ -262,14 +262,30 @@ bool terminal_september(struct terminal *t, uint32_t depth, struct fault *fault)
     return terminal_set_up(t, fault) && terminal_record(t, depth, fault);
 }
 
+/* From now on a client with another identity number gets 9, whatever its mask leaves open: here, and wherever the sequence is loaded that is stored
+   now. */
+bool terminal_bind(struct terminal *t, struct fault *fault)
+{
+    return terminal_do(t, (struct event){.kind = EVENT_EDITION, .edition = SCM_EDITION_2}, fault);
+}
+
 bool terminal_save(struct terminal *t, const char *path, struct fault *fault)
 {
     return terminal_do(t, (struct event){.kind = EVENT_STORE, .lent = SCM_STORE_BYTES}, fault)
         && keep_write(path, t->outcome.blocks, t->outcome.written, fault);
 }
 
-/* For the screen, before the driver starts: whether a start would be taken, and if not, which client or step stands against it. */
-static bool terminal_verified(struct terminal *t, const char *path, struct fault *fault)
+bool terminal_march(struct terminal *t, const char *path, struct fault *fault)
+{
+    uint8_t blocks[KEEP_BYTES];
+    struct event load = {.kind = EVENT_LOAD, .bytes = blocks};
+    struct fault inner;
+
+    return keep_read(path, blocks, &load.length, fault) && terminal_set_up(t, fault)
+        && (terminal_do(t, load, &inner) || keep_refused(path, load.length, t->outcome.number, fault));
+}
+
+bool terminal_verified(const struct terminal *t, const char *path, struct fault *fault)
 {
     scm_check_view where;
     uint8_t number = scm_verify(&t->master, &where);
@@ -280,21 +296,6 @@ static bool terminal_verified(struct terminal *t, const char *path, struct fault
     }
     return number == SCM_OK || fault_say(fault, FAULT_RUN, "%s: a start would be refused: %u %s: slot %zu%s", path, (unsigned)number,
                                          scm_number_text(number), where.slot, step);
-}
-
-bool terminal_march(struct terminal *t, const char *path, struct fault *fault)
-{
-    uint8_t blocks[KEEP_BYTES];
-    struct event load = {.kind = EVENT_LOAD, .bytes = blocks};
-    struct fault inner;
-
-    if (!keep_read(path, blocks, &load.length, fault) || !terminal_set_up(t, fault)) {
-        return false;
-    }
-    if (!terminal_do(t, load, &inner)) {
-        return keep_refused(path, load.length, t->outcome.number, fault);
-    }
-    return terminal_verified(t, path, fault);
 }
 
 bool terminal_play(struct terminal *t, struct sheet *sheet, struct fault *fault)

@@ -48,7 +48,7 @@ extern "C" {
 /* ---- Version */
 
 /* The version of this header: major * 1,000,000 + minor * 1,000 + patch. */
-#define SCM_VERSION 1001000u
+#define SCM_VERSION 2000000u
 
 /* The version of the archive, counted likewise. A host compiled with this header wants SCM_VERSION: compare once, at its start. */
 SCM_MUST_USE uint32_t scm_version(void);
@@ -83,7 +83,7 @@ enum scm_number {
     SCM_POOL_REFUSED = 6,           /* pool refused, with the D.9 code and object number */
     SCM_NO_STEP = 7,                /* sequence has no step */
     SCM_NOT_ENABLED = 8,            /* a client of the sequence is not enabled */
-    SCM_NAME_DIFFERS = 9,           /* a NAME differs */
+    SCM_NAME_DIFFERS = 9,           /* a NAME differs; in edition 2 an identity number that differs is enough, no matter what the mask says */
     SCM_LABEL_DIFFERS = 10,         /* a label differs */
     SCM_NOT_IN_POOL = 11,           /* function or state not in the loaded pool */
     SCM_NOT_READY = 12,             /* a client is not reporting ready */
@@ -91,7 +91,7 @@ enum scm_number {
     SCM_NO_CLIENT = 14,             /* no enabled client */
     SCM_NO_MATCH = 15,              /* answer matches no sent step; ignored */
     SCM_CHECK_WRONG = 16,           /* the check of a block is wrong */
-    SCM_NOT_STORED = 17             /* blocks that no sequence has, with every check right */
+    SCM_NOT_STORED = 17             /* blocks that no sequence has, with every check right; or an unknown edition */
 };
 
 /* What a number says, for a log or a screen. Here and in the other texts each code has words of its own, and all that are no code share one text. */
@@ -115,7 +115,7 @@ static inline const char *scm_number_text(uint8_t number)
     case SCM_NO_CLIENT: return "no enabled client";
     case SCM_NO_MATCH: return "answer matches no sent step";
     case SCM_CHECK_WRONG: return "the check of a block is wrong";
-    case SCM_NOT_STORED: return "blocks that no sequence has";
+    case SCM_NOT_STORED: return "blocks that no sequence has, or an unknown edition";
     default: return "no number of a call";
     }
 }
@@ -583,8 +583,8 @@ SCM_MUST_USE static inline uint8_t scm_shown(uint32_t value, int32_t offset, flo
 
 /* ---- The master: clients, states, recording and playback
 
-   The host owns the master's memory, one scm_master for each master, made by scm_init. The calls from scm_on to scm_load are events, and all of them
-   but scm_store change it; the readers after them answer in every state and change nothing.
+   The host owns the master's memory, one scm_master for each master, made by scm_init. The calls from scm_on to scm_edition are events, and all of
+   them but scm_store change it; the readers after them answer in every state and change nothing.
 
      inactive --on--> ready --record--> record --stop--> record complete (while a step is open) --> ready
               <-off--       --start---> playback --all steps done--> ready
@@ -597,6 +597,8 @@ SCM_MUST_USE static inline uint8_t scm_shown(uint32_t value, int32_t offset, flo
    recording  what is taken from scm_record on. It has its own steps; the sequence stays as it was until the recording ends and has kept a step.
    sequence   steps with the NAMEs and labels of their clients: those that the last recording that kept any has kept, in order of start, or those that
               were loaded after it, in the order of their blocks. It is what scm_start replays.
+   edition    of a sequence: by which rule scm_start looks at its clients' NAMEs. A recording gives edition 1, a load what its blocks say, and
+              scm_edition sets it.
    step       a function of a client that took a state, with its 32-bit value and its mark.
    block      SCM_BLOCK_BYTES bytes of a stored sequence, with a check of their own; HOST.md has them as a table of bytes.
    tick       an accepted scm_tick, 100 ms. A recording numbers its ticks from 1, from the accepted scm_record on; a playback from the accepted
@@ -662,6 +664,12 @@ enum scm_mark {
     SCM_MARK_MILLIMETRES = 1        /* millimetres: it was SCM_TRIGGER_DISTANCE */
 };
 
+/* scm_sequence_edition: who may replay the sequence. HOST.md, "Who may replay", has both rules. With no sequence it is 0. */
+enum scm_editions {
+    SCM_EDITION_1 = 1,              /* whoever masks and master NAMEs let pass: what a recording gives, and what was stored before there were editions */
+    SCM_EDITION_2 = 2               /* bound to the drill that recorded: each client's identity number, the lowest 21 bits of its NAME, agrees too */
+};
+
 /* scm_sent_view.answer: what a client has answered to a command. */
 enum scm_answered {
     SCM_UNANSWERED = 0,             /* nothing yet: tick left + 16 aborts */
@@ -716,6 +724,7 @@ typedef struct scm_sent_step {
 /* A sequence, from a recording or from a load. Used cells come first, clients stand by slot, unused cells are 0. */
 typedef struct scm_sequence {
     size_t count;                   /* steps */
+    uint32_t edition;               /* enum scm_editions; 0 where there is no step */
     scm_sequence_step steps[64];    /* in order of start; of a loaded sequence in the order of its blocks */
     scm_client_record clients[8];   /* by slot */
 } scm_sequence;
@@ -737,7 +746,7 @@ typedef struct scm_playback {
     scm_sent_step commands[64];     /* that of step i of the sequence is command i */
 } scm_playback;
 
-/* A master: plain data without pointers, 24,496 bytes. It may be copied, and kept in a file for the same version of the library. What is to outlast
+/* A master: plain data without pointers, 24,504 bytes. It may be copied, and kept in a file for the same version of the library. What is to outlast
    that is the sequence, by scm_store. */
 typedef struct scm_master {
     uint8_t state;                  /* enum scm_states */
@@ -825,9 +834,11 @@ SCM_MUST_USE scm_outcome scm_master_tick(scm_master master, uint32_t mm, uint8_t
 SCM_MUST_USE scm_outcome scm_master_answer(scm_master master, size_t slot, const uint8_t *msg, size_t msg_len, uint8_t *out, size_t out_len);
 SCM_MUST_USE scm_outcome scm_master_store(scm_master master, uint8_t *blocks, size_t blocks_len);
 SCM_MUST_USE scm_outcome scm_master_load(scm_master master, const uint8_t *blocks, size_t blocks_len);
+SCM_MUST_USE scm_outcome scm_master_edition(scm_master master, uint32_t edition);
 SCM_MUST_USE uint8_t scm_master_state(uint8_t state);
 SCM_MUST_USE scm_slot_result scm_master_slot(scm_master master, size_t slot);
 SCM_MUST_USE size_t scm_master_step_count(scm_sequence sequence);
+SCM_MUST_USE uint32_t scm_master_sequence_edition(scm_sequence sequence);
 SCM_MUST_USE scm_step_result scm_master_step(scm_sequence sequence, size_t i);
 SCM_MUST_USE scm_client_result scm_master_client(scm_sequence sequence, size_t slot);
 SCM_MUST_USE scm_progress_view scm_master_progress(uint8_t state, scm_recording recording, scm_playback playback);
@@ -982,7 +993,7 @@ SCM_MUST_USE static inline uint8_t scm_lost(scm_master *m, size_t slot)
      12  an enabled client's last report is not ready. Clients that are not enabled do not count; scm_slot shows whose it is
 
    Afterwards: tell the clients by the status message. A client's E.4s give 5 until it has reported record. scm_progress and scm_taken show what is
-   recorded; scm_step_count and scm_step stay the old sequence's until the recording ends. */
+   recorded; scm_step_count, scm_step and scm_sequence_edition stay the old sequence's until the recording ends. */
 SCM_MUST_USE static inline uint8_t scm_record(scm_master *m)
 {
     scm_outcome o = scm_master_record(*m);
@@ -997,7 +1008,8 @@ SCM_MUST_USE static inline uint8_t scm_record(scm_master *m)
    Afterwards look at scm_state. In record complete go on with ticks, reports and E.4s: with the E.4 that ends the last open step, done or failed, it
    goes to ready; a client that never ends it holds the master there until scm_cancel, until an enabled client is lost or reports disabled, or until
    tick 36,000.
-   When it goes to ready, the steps that are one-shot or done are the new sequence, in order of their starts; scm_step_count and scm_step show it.
+   When it goes to ready, the steps that are one-shot or done are the new sequence, in order of their starts and of edition 1; scm_step_count and
+   scm_step show it.
    Where there is none, the OLD sequence stays, and scm_start replays that: ask scm_taken before the end, or compare scm_step and scm_step_count,
    where it matters. */
 SCM_MUST_USE static inline uint8_t scm_stop(scm_master *m)
@@ -1070,7 +1082,8 @@ SCM_MUST_USE static inline uint8_t scm_client_abort(scm_master *m, size_t slot, 
      2   not in ready
      7   the sequence has no step: nothing was ever recorded and kept, or loaded
      8   a client of the sequence is not enabled: its slot is empty, or it is not wanted, or its last report is disabled
-     9   its NAME differs from the one kept: another machine, by the rule of HOST.md, "Who may replay"
+     9   its NAME differs from the one kept: another machine, by the rule of the sequence's edition; HOST.md, "Who may replay", has both. In edition 2
+         an identity number that differs is enough, no matter what the mask says
      10  its version label or its configuration label differs from the one kept
      11  its pool has not the function and state of a step
      12  its last report is not ready. Clients that are not in the sequence need not be ready
@@ -1146,8 +1159,9 @@ SCM_MUST_USE static inline uint8_t scm_answer(scm_master *m, size_t slot, const 
 }
 
 /* Writes the sequence to the front of blocks, as blocks of SCM_BLOCK_BYTES, each with its check: what a host keeps in a file, and what scm_load
-   takes, in this master or another one. In ready. The master is only read, and no client need be attached. The blocks hold the steps and, of each of
-   their clients, slot, NAME, master NAME and labels; they hold no pool, and nothing of the master's state, of its TAN or of who is attached.
+   takes, in this master or another one. In ready. The master is only read, and no client need be attached. The blocks hold the edition, the steps
+   and, of each of their clients, slot, NAME, master NAME and labels; they hold no pool, and nothing of the master's state, of its TAN or of who is
+   attached.
 
      0  the first *written bytes of blocks are the sequence, the others stay
      1  len is below the bytes of the sequence's blocks: 1 + clients / 3 + steps / 31 of them, each quotient rounded up. SCM_STORE_BYTES are always
@@ -1172,19 +1186,37 @@ SCM_MUST_USE static inline uint8_t scm_store(const scm_master *m, uint8_t *block
    ready. The sequence that stood there is replaced, and not asked back: store it first where it is to be kept. Nothing else changes: clients, their
    last reports, the TAN and the state are as they were.
 
-     0   the sequence is that of the blocks, step for step, with what they keep of its clients
+     0   the sequence is that of the blocks, step for step, of their edition, with what they keep of its clients. Blocks that were stored before there
+         were editions are of edition 1
      2   not in ready
      16  the check of a block is wrong, of any whole block among the bytes: they are not what was written. The file is damaged, or holds no stored
          sequence at all: take another copy of it
      17  every whole block has its check, and yet no sequence is stored so: len is 0 or no number of whole blocks, blocks are missing or left over, a
-         count or a field is out of its range, a fill is not 0, a slot has two records, a step has no record of its client, or a record has no step.
-         The file was cut, or written by something else or by a later version: do not mend it
+         count or a field is out of its range, the edition is neither 1 nor 2, a fill is not 0, a slot has two records, a step has no record of its
+         client, or a record has no step. The file was cut, or written by something else or by a later version: do not mend it
 
-   Afterwards: scm_step_count, scm_step and scm_client show what was loaded, and scm_verify whether it may be replayed: scm_start checks it as it
-   checks one that was recorded. Every whole block is looked at, however many there are: read no more of a file than SCM_STORE_BYTES and one. */
+   Afterwards: scm_step_count, scm_sequence_edition, scm_step and scm_client show what was loaded, and scm_verify whether it may be replayed: scm_start
+   checks it as it checks one that was recorded. Every whole block is looked at, however many there are: read no more of a file than SCM_STORE_BYTES
+   and one. */
 SCM_MUST_USE static inline uint8_t scm_load(scm_master *m, const uint8_t *blocks, size_t len)
 {
     scm_outcome o = scm_master_load(*m, blocks, len);
+    return scm_moved_on(m, &o);
+}
+
+/* Sets the sequence's edition, one of enum scm_editions: SCM_EDITION_2 binds what was recorded or loaded to the drill that recorded it, SCM_EDITION_1
+   releases it again. In ready. Nothing else changes: the steps, and what is kept of their clients, are as they were.
+
+     0   the sequence is of this edition
+     2   not in ready
+     7   the sequence has no step: there is nothing to bind
+     17  edition is neither 1 nor 2
+
+   Afterwards: scm_start and scm_verify go by it, and so they do wherever the sequence is loaded again: set it before scm_store. It stays until it is
+   set again, and goes with its sequence: one that is recorded in its place is of edition 1, one that is loaded of its own edition. */
+SCM_MUST_USE static inline uint8_t scm_edition(scm_master *m, uint32_t edition)
+{
+    scm_outcome o = scm_master_edition(*m, edition);
     return scm_moved_on(m, &o);
 }
 
@@ -1250,6 +1282,12 @@ SCM_MUST_USE static inline uint8_t scm_slot(const scm_master *m, size_t slot, sc
 SCM_MUST_USE static inline size_t scm_step_count(const scm_master *m)
 {
     return scm_master_step_count(m->sequence);
+}
+
+/* The sequence's edition, enum scm_editions, or 0 where it has no step. During a recording it is still the old sequence's. */
+SCM_MUST_USE static inline uint32_t scm_sequence_edition(const scm_master *m)
+{
+    return scm_master_sequence_edition(m->sequence);
 }
 
 /* Step i of the sequence, counted from 0; during a recording of the old one.
@@ -1376,14 +1414,15 @@ SCM_MUST_USE static inline uint8_t scm_verify(const scm_master *m, scm_check_vie
         FIELD(scm_sequence_step, distance, 3) FIELD(scm_sequence_step, value, 4) FIELD(scm_sequence_step, mark, 8) \
     SIZE(scm_taken_step, 16) FIELD(scm_taken_step, step, 0) FIELD(scm_taken_step, tan, 12) FIELD(scm_taken_step, status, 13) \
     SIZE(scm_sent_step, 8) FIELD(scm_sent_step, tan, 0) FIELD(scm_sent_step, answer, 1) FIELD(scm_sent_step, left, 4) \
-    SIZE(scm_sequence, 1992) FIELD(scm_sequence, count, 0) FIELD(scm_sequence, steps, 8) FIELD(scm_sequence, clients, 776) \
+    SIZE(scm_sequence, 2000) FIELD(scm_sequence, count, 0) FIELD(scm_sequence, edition, 8) FIELD(scm_sequence, steps, 12) \
+        FIELD(scm_sequence, clients, 784) \
     SIZE(scm_recording, 2256) FIELD(scm_recording, ticks, 0) FIELD(scm_recording, distance, 4) FIELD(scm_recording, count, 8) \
         FIELD(scm_recording, steps, 16) FIELD(scm_recording, clients, 1040) \
     SIZE(scm_playback, 528) FIELD(scm_playback, ticks, 0) FIELD(scm_playback, distance, 4) FIELD(scm_playback, sent, 8) \
         FIELD(scm_playback, commands, 16) \
-    SIZE(scm_master, 24496) FIELD(scm_master, state, 0) FIELD(scm_master, tan, 1) FIELD(scm_master, slots, 8) FIELD(scm_master, sequence, 19720) \
-        FIELD(scm_master, recording, 21712) FIELD(scm_master, playback, 23968) \
-    SIZE(scm_outcome, 24504) FIELD(scm_outcome, number, 0) FIELD(scm_outcome, code, 1) FIELD(scm_outcome, object, 2) FIELD(scm_outcome, count, 4) \
+    SIZE(scm_master, 24504) FIELD(scm_master, state, 0) FIELD(scm_master, tan, 1) FIELD(scm_master, slots, 8) FIELD(scm_master, sequence, 19720) \
+        FIELD(scm_master, recording, 21720) FIELD(scm_master, playback, 23976) \
+    SIZE(scm_outcome, 24512) FIELD(scm_outcome, number, 0) FIELD(scm_outcome, code, 1) FIELD(scm_outcome, object, 2) FIELD(scm_outcome, count, 4) \
         FIELD(scm_outcome, master, 8) \
     SIZE(scm_slot_result, 16) FIELD(scm_slot_result, number, 0) FIELD(scm_slot_result, taken, 1) FIELD(scm_slot_result, wanted, 2) \
         FIELD(scm_slot_result, report, 3) FIELD(scm_slot_result, name, 8) \

@@ -17,7 +17,7 @@ const BEHIND: usize = 24;
 
 pub struct Run {
     random: Random,
-    /// What is stored and loaded is chosen by this.
+    /// What is stored and loaded, and in which edition, is chosen by this.
     storing: Random,
     pool: Rc<Vec<u8>>,
     /// The numbers that each call gave.
@@ -65,6 +65,7 @@ impl Run {
         m.sequence.count = random.pick(&counts);
         m.recording.count = random.pick(&counts);
         m.playback.sent = random.pick(&counts);
+        m.sequence.edition = random.pick(&[0, 1, 1, 2, 2, 2, 3, m.sequence.edition]);
         for slot in &mut m.slots {
             (slot.taken, slot.wanted) = (random.pick(&[0, 1, 1, 2, 255]), random.pick(&[0, 1, 1, 2, 255]));
             slot.report = random.pick(&[0, 1, 1, 1, 2, 2, 3, 4, 5, 5, 6, 255]);
@@ -112,8 +113,9 @@ impl Run {
     /// One thing that a start looks at is otherwise.
     fn spoil(&mut self, m: &mut Master) {
         let (slot, step) = (self.random.below(8), self.random.below(64));
-        match self.random.below(7) {
+        match self.random.below(8) {
             0 => m.slots[slot].wanted = 0,
+            7 => m.slots[slot].name ^= 1 << self.random.below(22),
             1 => m.sequence.clients[slot].name ^= 1 << self.random.below(64),
             2 => m.sequence.clients[slot].version.bytes[0] ^= 1,
             3 => m.slots[slot].profile.configuration.length ^= 1,
@@ -154,6 +156,7 @@ impl Run {
             Event::Answer { slot: answer.0, message: answer.1, room: eight },
             self.store(m),
             self.load(m),
+            Event::Edition { edition: self.storing.pick(&[0, 1, 1, 2, 2, 2, 3, 257, u32::MAX]) },
         ]
     }
 
@@ -206,7 +209,8 @@ impl Run {
 
     /// One call on one master.
     fn hold(&mut self, event: &Event, m: &Master) {
-        let random = if let Event::Store { .. } | Event::Load { .. } = event { &mut self.storing } else { &mut self.random };
+        let storing = matches!(event, Event::Store { .. } | Event::Load { .. } | Event::Edition { .. });
+        let random = if storing { &mut self.storing } else { &mut self.random };
         let before: Vec<u8> = (0..BUFFER.max(event.room() + BEHIND)).map(|_| random.number() as u8).collect();
         let mut lent = before.clone();
         let given = event.on_library(m, &mut lent[..event.room()]);
@@ -234,7 +238,8 @@ impl Run {
         self.met.entry(event.name()).or_default().insert(given.number);
     }
 
-    /// The verification, in the state that the master is in; a start from ready gives its number.
+    /// The verification, in the state that the master is in; a start from ready gives its number. In edition 2 it goes by that rule, in any other by
+    /// that of edition 1.
     fn verification(&mut self, m: &Master) {
         let given = library::verify(m);
         let started = library::start(&Master { state: 1, ..*m }).number;
@@ -243,7 +248,12 @@ impl Run {
         if given.0 != started || !same || !is_first(m, given) {
             crate::fail("bits", &format!("verification gives {given:?}, by value {by_value:?}, and a start {started}"));
         }
+        let [first, second] = [1, 2].map(|edition| library::verify(&m.in_edition(edition)));
+        if given != if m.sequence.edition == 2 { second } else { first } || !follows(m, first, second) {
+            crate::fail("bits", &format!("verification gives {given:?}, in edition 1 {first:?}, in edition 2 {second:?}"));
+        }
         self.met.entry("verify").or_default().insert(given.0);
+        self.met.entry("verify in edition 2, where every check of edition 1 holds").or_default().extend((first.0 == 0).then_some(second.0));
     }
 
     /// Prints what was met. With as many masters as usual, each call was both done and refused.
@@ -282,7 +292,8 @@ fn named(m: &Master) -> Master {
     m
 }
 
-/// The blocks of any sequence, as its fields stand: a used of any number but 0 is a record, a count above 64 counts as 64; none with no step.
+/// The blocks of any sequence, as its fields stand: a used of any number but 0 is a record, a count above 64 counts as 64, an edition of 0 is stored
+/// as 1; none with no step.
 fn blocks_of<'a>(m: &'a Master) -> Vec<u8> {
     let used = m.sequence.clients.iter().zip(0..).filter(|(client, _)| client.used != 0);
     let label = |label: &'a library::Label| -> stored::Label<'a> { (label.length, &label.bytes) };
@@ -290,7 +301,8 @@ fn blocks_of<'a>(m: &'a Master) -> Vec<u8> {
     let records: Vec<_> = used.map(record).collect();
     let steps = m.sequence.steps.iter().take(m.sequence.count);
     let steps: Vec<_> = steps.map(|it| stored::step([it.slot, it.function, it.state, it.distance], it.mark, it.value)).collect();
-    if steps.is_empty() { Vec::new() } else { stored::blocks(&records, &steps) }
+    let edition_less_one = m.sequence.edition.saturating_sub(1);
+    if steps.is_empty() { Vec::new() } else { stored::blocks(edition_less_one, &records, &steps) }
 }
 
 /// Whether a store is not what the model says of it.
@@ -319,6 +331,36 @@ fn wrongly_loaded(m: &Master, given: &Outcome, blocks: &[u8]) -> bool {
     (given.number, given.count) != (wanted, 0) || given.master != (Master { sequence, ..*m })
 }
 
+/// Whether an edition is not set as 02 says: "in ready: 2, 7, 17 unknown edition".
+fn wrongly_set(m: &Master, given: &Outcome, edition: u32) -> bool {
+    let (wanted, after) = match (m.state, m.sequence.count, edition) {
+        (1, 0, _) => (7, *m),
+        (1, _, 1 | 2) => (0, m.in_edition(edition)),
+        (1, _, _) => (17, *m),
+        _ => (2, *m),
+    };
+    (given.number, given.count) != (wanted, 0) || given.master != after
+}
+
+/// "a sequence passing under 2 would pass under 1": what is named under 2 is what is named under 1, or 9 of a slot before it whose identity number
+/// differs, "the lowest 21 bits of the client's NAME"; it differs in no slot that is not named.
+fn follows(m: &Master, first: (u8, CheckView), second: (u8, CheckView)) -> bool {
+    let CheckView { slot, step } = second.1;
+    let differs = |slot: usize| (m.slots[slot].name << 43) != (m.sequence.clients[slot].name << 43);
+    let before = match first.0 {
+        8..=9 => slot < first.1.slot,
+        10 => slot <= first.1.slot,
+        _ => [0, 11, 12].contains(&first.0),
+    };
+    let passed = match second.0 {
+        7 => 0,
+        8..=10 => slot,
+        _ => 8,
+    };
+    let alike = (0..passed).all(|slot| m.sequence.clients[slot].used == 0 || !differs(slot));
+    alike && (second == first || second.0 == 9 && step == 0 && differs(slot) && before)
+}
+
 /// What 01 and 02 say of a call in every state.
 fn broken(event: &Event, m: &Master, given: &Outcome, before: &[u8], lent: &[u8]) -> Option<&'static str> {
     let wrong = match event {
@@ -331,6 +373,7 @@ fn broken(event: &Event, m: &Master, given: &Outcome, before: &[u8], lent: &[u8]
         }
         Event::Store { room } => wrongly_stored(m, given, *room, before, lent),
         Event::Load { blocks } => wrongly_loaded(m, given, blocks),
+        Event::Edition { edition } => wrongly_set(m, given, *edition),
         _ => m.state == 0 && ![1, 2, 3, 4].contains(&given.number),
     };
     if wrong { Some("not what the rules say") } else { None }
@@ -362,6 +405,7 @@ fn is_first(m: &Master, (number, CheckView { slot, step }): (u8, CheckView)) -> 
 fn readers(m: &Master) {
     let [count, taken, sent] = [m.sequence.count, m.recording.count, m.playback.sent].map(|count| count.min(64));
     let mut right = library::state(m) == m.state.min(5) && library::step_count(m) == count;
+    right &= library::sequence_edition(m) == if count == 0 { 0 } else { m.sequence.edition };
     let (ticks, distance, held) = match m.state {
         4 => (m.playback.ticks, m.playback.distance, sent),
         _ => (m.recording.ticks, m.recording.distance, taken),

@@ -165,6 +165,7 @@ impl Run {
         library::store_of(m, self.output.lend(3_584, upper));
         library::state(m);
         library::step_count(m);
+        library::sequence_edition(m);
         library::progress(m);
         library::verify(m);
         for i in [0, 7, 8, 63, 64, usize::MAX] {
@@ -174,7 +175,7 @@ impl Run {
             library::taken(m, i);
             library::sent(m, i);
         }
-        self.calls += 35;
+        self.calls += 36;
         self.input.open(READ_AND_WRITE);
     }
 

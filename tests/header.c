@@ -56,6 +56,7 @@ const layout_row through_names[] = {
     NAMED(SCM_INACTIVE) NAMED(SCM_READY) NAMED(SCM_RECORD) NAMED(SCM_RECORD_COMPLETE) NAMED(SCM_PLAYBACK) NAMED(SCM_ABORT)
     NAMED(SCM_REPORT_DISABLED) NAMED(SCM_REPORT_READY) NAMED(SCM_REPORT_RECORD) NAMED(SCM_REPORT_PLAYBACK) NAMED(SCM_REPORT_ABORT)
     NAMED(SCM_MARK_TICKS) NAMED(SCM_MARK_MILLIMETRES)
+    NAMED(SCM_EDITION_1) NAMED(SCM_EDITION_2)
     NAMED(SCM_UNANSWERED) NAMED(SCM_ANSWERED_STARTED) NAMED(SCM_ANSWERED_DONE)
 };
 const size_t through_names_rows = sizeof through_names / sizeof through_names[0];
@@ -131,9 +132,11 @@ THROUGH(uint8_t, through_answer, (scm_master *m, size_t slot, const uint8_t *msg
         return scm_answer(m, slot, msg, len, out, out_len))
 THROUGH(uint8_t, through_store, (const scm_master *m, uint8_t *blocks, size_t len, size_t *written), return scm_store(m, blocks, len, written))
 THROUGH(uint8_t, through_load, (scm_master *m, const uint8_t *blocks, size_t len), return scm_load(m, blocks, len))
+THROUGH(uint8_t, through_edition, (scm_master *m, uint32_t edition), return scm_edition(m, edition))
 THROUGH(uint8_t, through_state, (const scm_master *m), return scm_state(m))
 THROUGH(uint8_t, through_slot, (const scm_master *m, size_t slot, scm_slot_view *view), return scm_slot(m, slot, view))
 THROUGH(size_t, through_step_count, (const scm_master *m), return scm_step_count(m))
+THROUGH(uint32_t, through_sequence_edition, (const scm_master *m), return scm_sequence_edition(m))
 THROUGH(uint8_t, through_step, (const scm_master *m, size_t i, scm_step_view *view), return scm_step(m, i, view))
 THROUGH(uint8_t, through_client, (const scm_master *m, size_t slot, scm_client_view *view), return scm_client(m, slot, view))
 THROUGH(void, through_progress, (const scm_master *m, scm_progress_view *view), *view = scm_progress(m))
@@ -169,9 +172,11 @@ THROUGH(void, value_answer,
         *o = scm_master_answer(*m, slot, msg, len, out, out_len))
 THROUGH(void, value_store, (const scm_master *m, uint8_t *blocks, size_t len, scm_outcome *o), *o = scm_master_store(*m, blocks, len))
 THROUGH(void, value_load, (const scm_master *m, const uint8_t *blocks, size_t len, scm_outcome *o), *o = scm_master_load(*m, blocks, len))
+THROUGH(void, value_edition, (const scm_master *m, uint32_t edition, scm_outcome *o), *o = scm_master_edition(*m, edition))
 THROUGH(uint8_t, value_state, (uint8_t state), return scm_master_state(state))
 THROUGH(void, value_slot, (const scm_master *m, size_t slot, scm_slot_result *r), *r = scm_master_slot(*m, slot))
 THROUGH(size_t, value_step_count, (const scm_sequence *sequence), return scm_master_step_count(*sequence))
+THROUGH(uint32_t, value_sequence_edition, (const scm_sequence *sequence), return scm_master_sequence_edition(*sequence))
 THROUGH(void, value_step, (const scm_sequence *sequence, size_t i, scm_step_result *r), *r = scm_master_step(*sequence, i))
 THROUGH(void, value_client, (const scm_sequence *sequence, size_t slot, scm_client_result *r), *r = scm_master_client(*sequence, slot))
 THROUGH(void, value_progress, (uint8_t state, const scm_recording *recording, const scm_playback *playback, scm_progress_view *r),

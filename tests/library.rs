@@ -205,6 +205,7 @@ structs! {
 
     "scm_sequence" Sequence {
         count: usize,
+        edition: u32,
         steps: [Step; 64],
         clients: [Client; 8],
     }
@@ -323,7 +324,7 @@ pub const NO_CLIENT: Client = Client { used: 0, name: 0, master: 0, version: NO_
 pub const NO_STEP: Step = Step { slot: 0, function: 0, state: 0, distance: 0, value: 0, mark: 0 };
 pub const NO_TAKEN: Taken = Taken { step: NO_STEP, tan: 0, status: 0 };
 pub const NO_SENT: Sent = Sent { tan: 0, answer: 0, left: 0 };
-pub const NO_SEQUENCE: Sequence = Sequence { count: 0, steps: [NO_STEP; 64], clients: [NO_CLIENT; 8] };
+pub const NO_SEQUENCE: Sequence = Sequence { count: 0, edition: 0, steps: [NO_STEP; 64], clients: [NO_CLIENT; 8] };
 pub const NO_RECORDING: Recording =
     Recording { ticks: 0, distance: 0, count: 0, steps: [NO_TAKEN; 64], clients: [NO_CLIENT; 8] };
 pub const NO_PLAYBACK: Playback = Playback { ticks: 0, distance: 0, sent: 0, commands: [NO_SENT; 64] };
@@ -335,6 +336,13 @@ pub const NO_MASTER: Master = Master {
     recording: NO_RECORDING,
     playback: NO_PLAYBACK,
 };
+
+impl Master {
+    /// The same with its sequence in this edition.
+    pub fn in_edition(&self, edition: u32) -> Master {
+        Master { sequence: Sequence { edition, ..self.sequence }, ..*self }
+    }
+}
 
 /// Structs of numbers alone, for which all bytes are a value.
 pub trait Plain: Copy {
@@ -581,9 +589,11 @@ extern "C" {
     fn through_answer(m: *mut Master, slot: usize, msg: *const u8, len: usize, out: *mut u8, out_len: usize) -> u8;
     fn through_store(m: *const Master, blocks: *mut u8, len: usize, written: *mut usize) -> u8;
     fn through_load(m: *mut Master, blocks: *const u8, len: usize) -> u8;
+    fn through_edition(m: *mut Master, edition: u32) -> u8;
     fn through_state(m: *const Master) -> u8;
     fn through_slot(m: *const Master, slot: usize, view: *mut SlotView) -> u8;
     fn through_step_count(m: *const Master) -> usize;
+    fn through_sequence_edition(m: *const Master) -> u32;
     fn through_step(m: *const Master, i: usize, view: *mut Step) -> u8;
     fn through_client(m: *const Master, slot: usize, view: *mut ClientView) -> u8;
     fn through_progress(m: *const Master, view: *mut ProgressView);
@@ -592,11 +602,12 @@ extern "C" {
     fn through_verify(m: *const Master, view: *mut CheckView) -> u8;
 }
 
-/// A wrapper that gives a number and nothing else.
+/// A wrapper that gives a number and nothing else. The master is not in this frame: masters that stand one behind the other lie nearly alike in their
+/// pages, and some machines are slow to copy between such.
 fn event(m: &Master, call: impl FnOnce(&mut Master) -> u8) -> Outcome {
-    let mut outcome = Outcome { number: 0, code: 0, object: 0, count: 0, master: *m };
-    outcome.number = call(&mut outcome.master);
-    outcome
+    let mut master = Box::new(*m);
+    let number = call(&mut master);
+    Outcome { number, code: 0, object: 0, count: 0, master: *master }
 }
 
 #[inline(never)]
@@ -714,6 +725,11 @@ pub fn load(m: &Master, blocks: &[u8]) -> Outcome {
     event(m, |m| unsafe { through_load(m, blocks.as_ptr(), blocks.len()) })
 }
 
+#[inline(never)]
+pub fn edition(m: &Master, edition: u32) -> Outcome {
+    event(m, |m| unsafe { through_edition(m, edition) })
+}
+
 pub fn state(m: &Master) -> u8 {
     unsafe { through_state(m) }
 }
@@ -724,6 +740,10 @@ pub fn slot(m: &Master, slot: usize) -> (u8, SlotView) {
 
 pub fn step_count(m: &Master) -> usize {
     unsafe { through_step_count(m) }
+}
+
+pub fn sequence_edition(m: &Master) -> u32 {
+    unsafe { through_sequence_edition(m) }
 }
 
 pub fn step(m: &Master, i: usize) -> (u8, Step) {

@@ -4,6 +4,9 @@
 use crate::library;
 use std::collections::BTreeMap;
 
+/// 2.0.0: a struct that crosses has grown since 1.1.0.
+const VERSION: u32 = 2_000_000;
+
 type Names = &'static [(&'static str, usize)];
 
 const NAMES: &[Names] = &[
@@ -21,6 +24,8 @@ const NAMES: &[Names] = &[
     &[("SCM_NOT_IN_POOL", 11), ("SCM_NOT_READY", 12), ("SCM_NOT_DISABLED", 13), ("SCM_NO_CLIENT", 14), ("SCM_NO_MATCH", 15)],
     // "16 the check of a whole lent block, 17 counts or fields out of range"
     &[("SCM_CHECK_WRONG", 16), ("SCM_NOT_STORED", 17)],
+    // "A sequence has an edition, 1 or 2".
+    &[("SCM_EDITION_1", 1), ("SCM_EDITION_2", 2)],
     // D.9
     &[("SCM_POOL_TAKEN", 0x00), ("SCM_POOL_UNKNOWN_TYPE", 0x01), ("SCM_POOL_NO_BASE", 0x02), ("SCM_POOL_NO_FUNCTION", 0x03)],
     &[("SCM_POOL_NO_STATE", 0x04), ("SCM_POOL_NUMBER_TWICE", 0x05), ("SCM_POOL_FUNCTION_TWICE", 0x06), ("SCM_POOL_STATE_TWICE", 0x07)],
@@ -94,8 +99,8 @@ fn fail(why: &str) -> ! {
 /// Major, minor and patch, of which the last two have three digits each.
 fn version() -> String {
     let (header, archive) = (library::header_version(), library::version());
-    if header != archive {
-        fail(&format!("the header is of version {header}, the library of {archive}"));
+    if (header, archive) != (VERSION, VERSION) {
+        fail(&format!("the header is of version {header}, the library of {archive}, wanted is {VERSION}"));
     }
     format!("{}.{}.{}", header / 1_000_000, header / 1_000 % 1_000, header % 1_000)
 }

@@ -1,5 +1,5 @@
-//! The laws of what is stored, on the library itself: a load after a store gives back the same, into any master in ready; a stored set with one word
-//! altered gives 16; two sequences that differ have blocks that differ. And any bytes as blocks, against the model of tests/master.
+//! The laws of what is stored, on the library itself: a load after a store gives back the same, with its edition, into any master in ready; a stored
+//! set with one word altered gives 16; two sequences that differ have blocks that differ. And any bytes as blocks, against the model of tests/master.
 
 use crate::library::{self, Master, NO_MASTER, NO_SEQUENCE};
 use crate::master::blocks::{self, DAMAGES};
@@ -34,6 +34,7 @@ pub fn run(arguments: &[&str]) {
     run.every_word();
     run.every_length();
     run.every_letter();
+    run.every_edition();
     for _ in 0..count {
         run.any = Master { state: 1, ..masters.master() };
         let sequence = blocks::any_sequence(&mut run.random);
@@ -155,6 +156,26 @@ impl Run {
         }
     }
 
+    /// Numbers of all sizes where the edition stands, less one: as they are, and with the check made right again.
+    fn every_edition(&mut self) {
+        for edition in [1, 2] {
+            let sequence = Sequence { edition, ..blocks::sequence(&mut self.random, 4, 32) };
+            let mut blocks = self.store(&sequence);
+            let words = (0..32).flat_map(|bit| [1u32 << bit, (1 << bit) - 1, 1 << bit | 1, !(1 << bit)]);
+            for word in words {
+                blocks[8..12].copy_from_slice(&word.to_le_bytes());
+                let unmended = self.load(&blocks);
+                blocks::mend(&mut blocks);
+                let (mended, loaded) = (self.load(&blocks), library::load(&self.any, &blocks));
+                let known = mended == 0 && library::sequence_edition(&loaded.master) == word.wrapping_add(1);
+                if unmended != if word == edition - 1 { 0 } else { 16 } || !(if word < 2 { known } else { mended == 17 }) {
+                    wrong(&format!("{word} where edition {edition} stood: a load gives {unmended}, its check made right {mended}"));
+                }
+                blocks = self.store(&sequence);
+            }
+        }
+    }
+
     /// "Loading gives back exactly what was stored": into any master, and its records in any order.
     fn there_and_back(&mut self, sequence: &Sequence) {
         let blocks = self.store(sequence);
@@ -188,7 +209,7 @@ impl Run {
 
     /// The same sequence but for one thing: its blocks are others.
     fn one_thing_other(&mut self, sequence: &Sequence) {
-        for thing in 0..11 {
+        for thing in 0..12 {
             let mut other = sequence.clone();
             let place = self.random.below(other.steps.len());
             let step = &mut other.steps[place];
@@ -202,6 +223,7 @@ impl Run {
                 4 => step.mark = if step.mark == Mark::Millimetres(9) { Mark::Ticks(9) } else { Mark::Millimetres(9) },
                 5 => other.steps.swap(place, 0),
                 6 if other.steps.len() < 64 => other.steps.push(other.steps[0]),
+                11 => other.edition = 3 - other.edition,
                 _ => other_client(other.clients.get_mut(&slot).unwrap(), thing, bit),
             }
             let (one, two) = (self.store(sequence), self.store(&other));

@@ -4,11 +4,11 @@
 use std::sync::atomic::{AtomicU8, Ordering::Relaxed};
 
 const STATES: usize = 6;
-const CALLS: usize = 18;
+const CALLS: usize = 19;
 const NUMBERS: usize = 18;
 const PATHS: usize = CALLS * NUMBERS * STATES * STATES;
 /// Each of the other tables has a row for each thing counted.
-const ROWS: usize = 18;
+const ROWS: usize = 19;
 const ROW: usize = 256;
 const ALL: usize = PATHS + ROWS * ROW;
 
@@ -46,7 +46,7 @@ pub enum Row {
     Written,
     /// How the TAN and the tick counters run, by their leading bits.
     Counts,
-    /// The number of a verification, and its slot.
+    /// The number of a verification, its slot, and whether by the rule of edition 2.
     Verified,
     /// The kind of an object written, by number.
     Object,
@@ -54,6 +54,8 @@ pub enum Row {
     Refused,
     /// Clients and steps of a sequence that was stored or loaded.
     Kept,
+    /// The numbers of a verification by both rules; editions that were stored, loaded or set, after which.
+    Edition,
 }
 
 fn bump(place: usize) {

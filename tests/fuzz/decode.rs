@@ -24,6 +24,10 @@ const SPEEDS: [u32; 12] = [0, 1, 100, 400, 1_000, 9_999, 65_534, 65_535, 65_536,
 /// By their place: ready, record, disabled, playback, abort, and three of no known state.
 const REPORTS: [u32; 8] = [1, 2, 0, 4, 5, 3, 6, 257];
 const ERRORS: [u8; 8] = [0, 0, 0, 0, 1, 2, 0xFF, 4];
+/// By their place, the first two are editions, the others are none.
+const EDITIONS: [u32; 8] = [2, 1, 0, 3, 257, 65_538, 0x8000_0001, u32::MAX];
+/// What NAMEs differ in, within the identity number and just above it.
+const IDENTITIES: [u64; 4] = [1, 1 << 20, 1 << 21, 0x1F_FFFF];
 
 /// The operations, by the byte that begins each.
 pub mod op {
@@ -57,7 +61,8 @@ pub mod op {
     pub const EDITED: u8 = 27; // as ATTACH, with edits of the pool
     pub const STORE: u8 = 28;
     pub const LOAD: u8 = 29; // from which blocks, and their operands; how many edits, and these
-    pub const ALL: u8 = 30;
+    pub const EDITION: u8 = 30; // which edition, or any number (four bytes)
+    pub const ALL: u8 = 31;
 }
 
 /// What is left of an input.
@@ -153,6 +158,7 @@ impl<'a> Play<'a> {
             op::READERS => self.pair.readers(),
             op::STORE => self.store(),
             op::LOAD => self.load(),
+            op::EDITION => self.edition(),
             op::LEND => self.twist.room = self.bytes.next(),
             op::FAR => self.twist.far = self.bytes.next(),
             op::SPOIL => self.twist.spoil = Some((self.bytes.byte(), self.bytes.byte())),
@@ -197,7 +203,7 @@ impl<'a> Play<'a> {
         self.pair.event(&event);
     }
 
-    /// The NAME is the sample's own in this slot, one that is attached, another sample's, or one with a bit changed.
+    /// The NAME is the sample's own in this slot, one that is attached, another sample's, or one with a bit changed, or with another identity number.
     fn attach(&mut self, edits: usize) {
         let slot = usize::from(self.bytes.byte() % 8);
         let (which, variant) = (self.bytes.byte(), usize::from(self.bytes.byte()));
@@ -207,7 +213,8 @@ impl<'a> Play<'a> {
             0..=15 => own,
             16..=19 => self.pair.model.slots.iter().flatten().next().map_or(own, |client| client.name),
             20..=23 => self.pools.client(usize::from(which % 8) + 1, 0).name ^ (slot as u64) << 32,
-            bit => own ^ 1 << (bit * 2),
+            bit @ 24..=27 => own ^ 1 << (bit * 2),
+            place => own ^ IDENTITIES[usize::from(place) % 4],
         };
         let pool = if edits == 0 { client.pool } else { Rc::new(edited(client.pool.to_vec(), &mut self.bytes, edits)) };
         self.does(Event::Attach { slot, name, pool });
@@ -338,6 +345,14 @@ impl<'a> Play<'a> {
     fn load(&mut self) {
         let blocks = self.known.blocks(&mut self.bytes, &self.stored, 2);
         self.does(Event::Load { blocks: Rc::new(blocks) });
+    }
+
+    fn edition(&mut self) {
+        let edition = match self.bytes.byte() {
+            byte @ 0..=239 => EDITIONS[usize::from(byte % 8)],
+            _ => self.bytes.long(),
+        };
+        self.does(Event::Edition { edition });
     }
 
     /// Any bytes of any length to one of the calls that read a message.

@@ -108,7 +108,9 @@ impl Pair {
     /// A start from ready gives the number of the verification just before it. The model has the same clients and sequence after it as before.
     fn starts(&mut self, number: u8) {
         let (given, wanted) = (library::verify(&self.library), view::verify(&self.model));
-        counters::count(Row::Verified, usize::from(given.0) * 16 + given.1.slot);
+        let second = self.library.sequence.edition == 2;
+        counters::count(Row::Verified, usize::from(given.0) * 16 + usize::from(second) * 8 + given.1.slot);
+        self.starts_otherwise();
         if given != wanted || self.library.state == READY && given.0 != number {
             found(&format!("verification: the library gives {given:?}, the model {wanted:?}; a start {number}"));
         }
@@ -117,6 +119,24 @@ impl Pair {
                 found(&format!("no rule allows: {unknown}"));
             }
         }
+    }
+
+    /// By the rule of each edition. "a sequence passing under 2 would pass under 1"
+    fn starts_otherwise(&mut self) {
+        let own = self.model.sequence.edition;
+        let numbers = [1, 2].map(|edition| {
+            self.model.sequence.edition = edition;
+            let (given, wanted) = (library::verify(&self.library.in_edition(edition)), view::verify(&self.model));
+            if given != wanted {
+                found(&format!("verification in edition {edition}: the library gives {given:?}, the model {wanted:?}"));
+            }
+            given.0
+        });
+        self.model.sequence.edition = own;
+        if numbers[1] == 0 && numbers[0] != 0 {
+            found("promise broken: what passes under 2 would pass under 1");
+        }
+        counters::count(Row::Edition, usize::from(numbers[0]) * 16 + usize::from(numbers[1]));
     }
 
     fn compare_states(&mut self) {
@@ -131,6 +151,7 @@ impl Pair {
         let (library, model) = (&*self.library, &self.model);
         let mut same = library::state(library) == view::state(model) && library::step_count(library) == model.sequence.steps.len();
         same &= library::progress(library) == view::progress(model) && library::verify(library) == view::verify(model);
+        same &= library::sequence_edition(library) == view::edition(model);
         if !same {
             found("a reader does not give what the state holds");
         }
@@ -151,7 +172,7 @@ impl Pair {
             same &= library::client(library, slot) == view::client(model, slot);
         }
         let count = model.sequence.steps.len();
-        same &= library::step_count(library) == count;
+        same &= library::step_count(library) == count && library::sequence_edition(library) == view::edition(model);
         for place in (0..=count).chain([64, 256, 1 << 32, usize::MAX]) {
             same &= library::step(library, place) == view::step(model, place);
         }
@@ -159,7 +180,7 @@ impl Pair {
             found("a reader does not give what the state holds");
         }
         if let Some(met) = &mut self.met {
-            met.readers(count);
+            met.readers(&self.model.sequence);
             met.progress(&self.model);
         }
     }
@@ -245,6 +266,10 @@ impl Pair {
             Event::Store { .. } | Event::Load { .. } => {
                 counters::count(Row::Kept, new.sequence.clients.iter().filter(|client| client.used == 1).count());
                 counters::count(Row::Kept, 16 + new.sequence.count);
+                counters::count(Row::Edition, 208 + 4 * old.sequence.edition as usize + new.sequence.edition as usize);
+            }
+            Event::Edition { edition } => {
+                counters::count(Row::Edition, 224 + 4 * old.sequence.edition as usize + *edition as usize);
             }
             _ => {}
         }
@@ -338,5 +363,6 @@ fn call(event: &Event) -> usize {
         Event::Answer { .. } => 15,
         Event::Store { .. } => 16,
         Event::Load { .. } => 17,
+        Event::Edition { .. } => 18,
     }
 }

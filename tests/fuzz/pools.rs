@@ -17,6 +17,8 @@ const SEED: u64 = 11_783;
 pub const SAMPLES: usize = 5;
 /// The NAME mask of the first, which has bits of either kind; in slot 0 its master NAME is its own NAME.
 const MASK: u64 = 0xFF00_FFFF_FFFF_FFFF;
+/// That of the second leaves the identity number open.
+const BUT_IDENTITY: u64 = 0xFFFF_FFFF_FFE0_0000;
 /// The preferred triggers; each is met in the first pools.
 const TRIGGERS: [u8; 3] = [255, 2, 1];
 /// So many damaged pools of each small sample.
@@ -52,6 +54,7 @@ impl Pools {
         }
         samples[0].pool.base().mask = MASK;
         samples[0].pool.base().master_name = samples[0].name;
+        samples[1].pool.base().mask = BUT_IDENTITY;
         Pools { clients: samples.iter().map(|sample| variants(sample, &mut random)).collect() }
     }
 

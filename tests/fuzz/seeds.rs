@@ -50,7 +50,7 @@ fn master(parts: &[&[u8]]) -> Vec<u8> {
 }
 
 pub fn seeds() -> Vec<Vec<u8>> {
-    [recordings(), playbacks(), others(), stores(), pools(), messages(), blocks()].concat()
+    [recordings(), playbacks(), others(), stores(), editions(), pools(), messages(), blocks()].concat()
 }
 
 fn recordings() -> Vec<Vec<u8>> {
@@ -116,7 +116,7 @@ fn others() -> Vec<Vec<u8>> {
     let alone = &[DISABLE, 1, RECORD, REPORT, 8, INDICATE, 0, VALUE, 1, STOP];
     let aborted = |then: [u8; 2]| [&[REPORT, 0, START, REPORT, 32][..], &then].concat();
     let orders = &[LEND, 0, ENABLE, 7, LEND, 0, RAW, 0, 1, 0x32, LEND, 40, DISABLE, 0, LEND, 0, TICK, 9, TICK, 9, LEND, 100, TICK, 0, REPORT, 47];
-    let faults: Vec<u8> = (0..24).flat_map(|place| [ATTACH, 5, 2, CHANGED + 2 * place]).collect();
+    let faults: Vec<u8> = (0..48).flat_map(|place| [ATTACH, 5, 2, CHANGED + place]).collect();
     let refused = &[LEND, 0, TICK, 0, FAR, 2, ENABLE, 0, SPOIL, 0, 1, ANSWER, 0, 0, RAW, 0, 3, 0x32, 5, 2, OFF, CANCEL, LOST, 7, ABORT, STOP];
     vec![
         master(&[NOT_NOW, &[STOP, CANCEL, TICK, 0, INDICATE, 0, 0, 0]]),
@@ -151,6 +151,30 @@ fn stores() -> Vec<Vec<u8>> {
     ]
 }
 
+/// The sequence gets an edition, known and unknown, in every state; a client comes back with another identity number, under a mask that leaves it
+/// open or asks for it; and the edition is stored, loaded, and lost by a recording.
+fn editions() -> Vec<Vec<u8>> {
+    let each: Vec<u8> = (0..8).flat_map(|place| [EDITION, 7 - place]).collect();
+    let (first, second) = (&[EDITION, 1][..], &[EDITION, 0][..]);
+    let back = |slot: u8, name: u8, variant: u8| [&[LOST, slot, ATTACH, slot, slot + 8 * name, variant, ENABLE, slot][..], &BACK[8..]].concat();
+    let both = |slot: u8, name: u8, variant: u8| [second, &back(slot, name, variant), first, &BACK[8..]].concat();
+    let changed = |slot: u8| [both(slot, 0, CHANGED - 2), both(slot, 0, CHANGED - 1), both(slot, 0, 3), both(slot, 0, 8), both(slot, 0, 12)].concat();
+    let own = &[LOAD, OWN, 0][..];
+    let in_turn = [&[STORE][..], second, own, second, &[STORE], own, first, own, &[STORE]].concat();
+    let edited = |place: u8, mended: u8| [LOAD, OWN + mended, 1, 2, place, 0, 0, STORE];
+    let edits = [edited(8, 1), edited(8, 0), edited(9, 1), edited(11, 1), edited(12, 1)].concat();
+    let asleep = [OFF, DISABLE, 0, DISABLE, 1, ALL_REPORT, DISABLED, OFF, ON];
+    vec![
+        master(&[&each, &[ON, READERS], &each, CLIENTS, RECORDING, &each, &[RECORD], &each, &[CANCEL, START], &each, &[ABORT], &each, &[READERS]]),
+        master(&[CLIENTS, RECORDING, &both(1, 28, 0), &both(1, 29, 0), &both(1, 30, 0), &both(1, 31, 0)]),
+        master(&[CLIENTS, RECORDING, &changed(0)]),
+        master(&[CLIENTS, RECORDING, &changed(1), second, &[LOST, 0, START, REPORT, 1, START]]),
+        master(&[CLIENTS, RECORDING, &in_turn, RECORDING, &in_turn, &[RECORD, STOP, STORE, START, PLAY, 3, 12, READERS]]),
+        master(&[CLIENTS, RECORDING, &[STORE], &edits, &[RECORD], &edited(9, 1)]),
+        master(&[CLIENTS, RECORDING, second, &asleep, &[READERS, STORE, EDITION, 240, 2, 0, 0, 0]]),
+    ]
+}
+
 /// Legal ones, one with a byte changed, one of zeros, and damaged ones; and objects that are written, as they are and with a field edited.
 fn pools() -> Vec<Vec<u8>> {
     let mut seeds = vec![vec![POOL, 0, 0], vec![POOL, 1, 0, 0, 30, 0, 65], vec![POOL, 4, 0], [&[POOL, 128, 0][..], &[0; 30]].concat()];
@@ -180,7 +204,7 @@ fn blocks() -> Vec<Vec<u8>> {
     for damage in 0..DAMAGES.len() as u8 {
         seeds.extend([0, 1].map(|which| vec![BLOCKS, 0, DAMAGED + 2 * damage, which, damage, 0]));
     }
-    for place in [0, 4, 8, 12] {
+    for place in [0, 4, 8, 9, 10, 11, 12] {
         seeds.extend([0, 1].map(|mended| vec![BLOCKS, 0, KNOWN + 4 + mended, 1, 0, place, 2, 9]));
     }
     seeds.extend((0..9).map(|count| vec![BLOCKS, 0, ANY + count % 2, count, 0, 0, 0, 8, 1, 0, 0, 0, 1, 0, 0, 0]));

@@ -13,7 +13,7 @@ use crate::stored::{self, BLOCK};
 use std::rc::Rc;
 
 const SEED: u64 = 11_783;
-/// Clients and steps of the sequences that are known: the least, the largest, and those at whose counts a block is full.
+/// Clients and steps of the sequences that are known, of both editions in turn: the least, the largest, and those at whose counts a block is full.
 const COUNTS: [(usize, usize); 8] = [(1, 1), (8, 64), (2, 5), (3, 31), (4, 32), (6, 62), (7, 63), (1, 64)];
 /// Enough for every sequence.
 const ROOM: usize = 3_584;
@@ -32,7 +32,9 @@ pub struct Known {
 impl Known {
     pub fn new() -> Known {
         let mut random = Random::new(SEED);
-        Known { sequences: COUNTS.map(|(clients, steps)| blocks::sequence(&mut random, clients, steps)).into() }
+        let mut sequences = COUNTS.map(|(clients, steps)| blocks::sequence(&mut random, clients, steps));
+        sequences.iter_mut().zip([1, 2].iter().cycle()).for_each(|(sequence, &edition)| sequence.edition = edition);
+        Known { sequences: sequences.into() }
     }
 
     fn sequence(&self, which: u8) -> &Sequence {

@@ -1,5 +1,5 @@
 //! What a recording keeps, reckoned from the indications that were answered and the ticks that were accepted, without the model: "order of
-//! start", the mark at the start, and the 32-bit value of the finishing or the one-shot indication.
+//! start", the mark at the start, and the 32-bit value of the finishing or the one-shot indication; its edition is the first.
 
 use crate::event::Event;
 use crate::library::{Master, Outcome, Step};
@@ -49,12 +49,12 @@ impl Log {
         };
         self.on = self.on && (2..=RECORD_COMPLETE).contains(&given.master.state);
         let sequence = &given.master.sequence;
-        let loads = matches!(event, Event::Load { .. });
-        if wanted.is_empty() && !loads && *sequence != old.sequence {
-            return Some("a sequence stays until a recording that keeps a step is ended, or another one is loaded");
+        let alters = matches!(event, Event::Load { .. } | Event::Edition { .. });
+        if wanted.is_empty() && !alters && *sequence != old.sequence {
+            return Some("a sequence stays until a recording that keeps a step is ended, another one is loaded, or it gets an edition");
         }
-        if !wanted.is_empty() && sequence.steps.get(..sequence.count) != Some(&wanted[..]) {
-            return Some("the one-shot and done steps are kept, in order of start, with the value and mark of each");
+        if !wanted.is_empty() && (sequence.steps.get(..sequence.count) != Some(&wanted[..]) || sequence.edition != 1) {
+            return Some("the one-shot and done steps are kept, in order of start, with the value and mark of each, in edition 1");
         }
         None
     }

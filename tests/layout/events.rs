@@ -29,6 +29,7 @@ pub fn all(seen: &mut Seen) {
     counting(seen, &mut random);
     end_of_recording(seen, &mut random);
     stored_sequence(seen, &mut random);
+    edition(seen, &mut random);
     verification(seen, &mut random);
 }
 
@@ -70,6 +71,9 @@ fn readers(seen: &mut Seen, random: &mut Random) {
         seen.gives("state", library::value::state(m.state), m.state, &[]);
         seen.gives("step count", library::step_count(&m), count, &[("scm_sequence", &["count"])]);
         seen.gives("step count", library::value::step_count(&m.sequence), count, &[]);
+        let edition = if count == 0 { 0 } else { m.sequence.edition };
+        seen.gives("edition", library::sequence_edition(&m), edition, &[("scm_sequence", &["edition"])]);
+        seen.gives("edition", library::value::sequence_edition(&m.sequence), edition, &[]);
         for i in 0..65 {
             let wanted = if i < count { (0, m.sequence.steps[i]) } else { (3, NO_STEP) };
             let fields = &["slot", "function", "state", "distance", "value", "mark"];
@@ -330,7 +334,7 @@ fn end_of_recording(seen: &mut Seen, random: &mut Random) {
         }
         m.recording.clients.iter_mut().for_each(|client| client.used = 1);
         let mut after = ended(&m, 1);
-        after.sequence.count = count;
+        (after.sequence.count, after.sequence.edition) = (count, 1);
         after.sequence.clients = m.recording.clients;
         for (i, (step, taken)) in after.sequence.steps.iter_mut().zip(&m.recording.steps).enumerate() {
             *step = if i < count { taken.step } else { NO_STEP };
@@ -352,6 +356,16 @@ fn stored_sequence(seen: &mut Seen, random: &mut Random) {
         seen.gives("blocks", &out, &wanted, &[]);
         let other = any_in(random, 1);
         event(seen, "load", &other, &library::load(&other, &wanted), &Master { sequence: m.sequence, ..other });
+    }
+}
+
+/// Of all fields the edition is set, whatever it was.
+fn edition(seen: &mut Seen, random: &mut Random) {
+    for edition in [1, 2] {
+        let mut m = any_in(random, 1);
+        m.sequence.count = 1 + random.below(64);
+        event(seen, "edition", &m, &library::edition(&m, edition), &m.in_edition(edition));
+        event(seen, "edition", &m, &library::value::edition(&m, edition), &m.in_edition(edition));
     }
 }
 
@@ -426,6 +440,22 @@ fn verification(seen: &mut Seen, random: &mut Random) {
             seen.changes("start refused", &other, &given.master, &other);
             // The first step of a slot is that of its number.
             verified(seen, &other, number, slot, if number == 11 { slot } else { 0 });
+        }
+        identity_verified(seen, &m, slot);
+    }
+}
+
+/// The mask leaves one bit of the NAME open: only in edition 2 a start looks at it, and only if it is one of the lowest 21.
+fn identity_verified(seen: &mut Seen, m: &Master, slot: usize) {
+    for bit in 0..64 {
+        let mut other = *m;
+        other.slots[slot].name ^= 1 << bit;
+        other.slots[slot].profile.mask &= !(1 << bit);
+        for edition in [0, 1, 2, 3, 258, u32::MAX] {
+            let (number, named) = if edition == 2 && bit < 21 { (9, slot) } else { (0, 0) };
+            let other = other.in_edition(edition);
+            seen.gives("start", library::start(&other).number, number, &[]);
+            seen.gives("verification", library::verify(&other), (number, CheckView { slot: named, step: 0 }), &[]);
         }
     }
 }

@@ -27,9 +27,11 @@ extern "C" {
     fn value_answer(m: *const Master, slot: usize, msg: *const u8, len: usize, out: *mut u8, out_len: usize, o: *mut Outcome);
     fn value_store(m: *const Master, blocks: *mut u8, len: usize, o: *mut Outcome);
     fn value_load(m: *const Master, blocks: *const u8, len: usize, o: *mut Outcome);
+    fn value_edition(m: *const Master, edition: u32, o: *mut Outcome);
     fn value_state(state: u8) -> u8;
     fn value_slot(m: *const Master, slot: usize, r: *mut SlotResult);
     fn value_step_count(sequence: *const Sequence) -> usize;
+    fn value_sequence_edition(sequence: *const Sequence) -> u32;
     fn value_step(sequence: *const Sequence, i: usize, r: *mut StepResult);
     fn value_client(sequence: *const Sequence, slot: usize, r: *mut ClientResult);
     fn value_progress(state: u8, recording: *const Recording, playback: *const Playback, r: *mut ProgressView);
@@ -130,6 +132,10 @@ pub fn load(m: &Master, blocks: &[u8]) -> Outcome {
     into(|o| unsafe { value_load(m, blocks.as_ptr(), blocks.len(), o) })
 }
 
+pub fn edition(m: &Master, edition: u32) -> Outcome {
+    into(|o| unsafe { value_edition(m, edition, o) })
+}
+
 pub fn state(state: u8) -> u8 {
     unsafe { value_state(state) }
 }
@@ -140,6 +146,10 @@ pub fn slot(m: &Master, slot: usize) -> SlotResult {
 
 pub fn step_count(sequence: &Sequence) -> usize {
     unsafe { value_step_count(sequence) }
+}
+
+pub fn sequence_edition(sequence: &Sequence) -> u32 {
+    unsafe { value_sequence_edition(sequence) }
 }
 
 pub fn step(sequence: &Sequence, i: usize) -> StepResult {

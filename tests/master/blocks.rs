@@ -10,12 +10,12 @@ const CLIENTS: usize = 8;
 
 // Sequences.
 
-/// So many clients, in any slots, and so many steps, one of each client at least.
+/// So many clients, in any slots, and so many steps, one of each client at least; of either edition.
 pub fn sequence(random: &mut Random, clients: usize, steps: usize) -> Sequence {
     let mut slots: Vec<usize> = (0..CLIENTS).collect();
     random.shuffle(&mut slots);
     slots.truncate(clients);
-    let mut sequence = Sequence::default();
+    let mut sequence = Sequence { edition: random.pick(&[1, 2]), ..Sequence::default() };
     sequence.clients.extend(slots.iter().map(|&slot| (slot, identity(random))));
     sequence.steps.extend(slots.iter().cycle().take(clients).map(|&slot| step(random, slot)));
     for _ in clients..steps {
@@ -61,8 +61,9 @@ fn step(random: &mut Random, slot: usize) -> Step {
 
 // Damage.
 
-/// A sequence as its records and steps, before they are laid into blocks.
+/// A sequence as its edition, less one, its records and steps, before they are laid into blocks.
 pub struct Parts {
+    pub edition_less_one: u32,
     pub records: Vec<[u8; RECORD]>,
     pub steps: Vec<[u8; STEP]>,
 }
@@ -70,11 +71,12 @@ pub struct Parts {
 impl Parts {
     pub fn of(sequence: &Sequence) -> Parts {
         let records = sequence.clients.iter().map(|(&slot, client)| stored::record_of(slot, client)).collect();
-        Parts { records, steps: sequence.steps.iter().map(stored::step_of).collect() }
+        let steps = sequence.steps.iter().map(stored::step_of).collect();
+        Parts { edition_less_one: sequence.edition - 1, records, steps }
     }
 
     pub fn blocks(&self) -> Vec<u8> {
-        stored::blocks(&self.records, &self.steps)
+        stored::blocks(self.edition_less_one, &self.records, &self.steps)
     }
 
     fn record(&mut self, random: &mut Random) -> &mut [u8; RECORD] {
@@ -147,9 +149,10 @@ pub fn another_order(sequence: &Sequence, random: &mut Random) -> Vec<u8> {
 pub const DAMAGES: &[Damaging] = &[
     (Some("no client"), Damage::Parts(|parts, _| parts.records.clear())),
     (Some("no step"), Damage::Parts(|parts, _| parts.steps.clear())),
-    (Some("no step"), Damage::Parts(|parts, _| *parts = Parts { records: Vec::new(), steps: Vec::new() })),
+    (Some("no step"), Damage::Parts(|parts, _| *parts = Parts { edition_less_one: 0, records: Vec::new(), steps: Vec::new() })),
     (Some("more than 8 clients"), Damage::Parts(many_records)),
     (Some("more than 64 steps"), Damage::Parts(many_steps)),
+    (Some("an unknown edition"), Damage::Parts(|parts, random| parts.edition_less_one = unknown(random))),
     (Some("a slot above 7"), Damage::Parts(far_client)),
     (Some("a slot above 7"), Damage::Parts(|parts, random| parts.record(random)[0] = far_slot(random))),
     (Some("a slot above 7"), Damage::Parts(|parts, random| parts.step(random)[0] = far_slot(random))),
@@ -183,11 +186,12 @@ pub const DAMAGES: &[Damaging] = &[
     (Some("fill after the records of a block"), Damage::Bytes(records_fill)),
     (Some("fill after the steps of a block"), Damage::Bytes(steps_fill)),
     (None, Damage::Bytes(|bytes, random| other_count(bytes, 4 * random.below(2), random))),
-    (None, Damage::Bytes(|bytes, random| bytes[..8].fill(random.pick(&[0, 1, 8, 64, 255])))),
+    (None, Damage::Bytes(|bytes, random| bytes[..12].fill(random.pick(&[0, 1, 8, 64, 255])))),
     (None, Damage::Bytes(any_word)),
     (None, Damage::Bytes(|bytes, _| bytes.fill(0))),
     (None, Damage::Bytes(noise)),
     (None, Damage::Bytes(noise_in_fields)),
+    (None, Damage::Checks(|bytes, random| bytes[8..12].copy_from_slice(&unknown(random).to_le_bytes()))),
     (None, Damage::Checks(swapped_words)),
     (None, Damage::Checks(balanced_words)),
     (None, Damage::Checks(any_word)),
@@ -209,6 +213,12 @@ fn some(random: &mut Random) -> u8 {
 fn far_slot(random: &mut Random) -> u8 {
     let any = random.between(8, 255) as u8;
     random.pick(&[any, 8, 15, 255])
+}
+
+/// An edition, less one, that is neither 1 nor 2, though it may be one of them if it is cut to a byte, to 16 or to 31 bits.
+fn unknown(random: &mut Random) -> u32 {
+    let (any, known) = (random.between(2, u32::MAX), random.below(2) as u32);
+    random.pick(&[any, 2, 3, 256 + known, 65_536 + known, 1 << 31 | known, u32::MAX])
 }
 
 fn many_records(parts: &mut Parts, random: &mut Random) {
@@ -314,8 +324,8 @@ fn without_block(bytes: &mut Vec<u8>, random: &mut Random) {
 }
 
 fn first_fill(bytes: &mut Vec<u8>, random: &mut Random) {
-    let place = random.between(8, 507) as usize;
-    bytes[random.pick(&[place, 8, 11, 12, 507])] = some(random);
+    let place = random.between(12, 507) as usize;
+    bytes[random.pick(&[place, 12, 15, 507])] = some(random);
 }
 
 /// The blocks from one to another, and how many bytes of the last of them are in use.

@@ -281,10 +281,10 @@ fn late_client(run: &mut Run) {
 }
 
 /// A drill, a sister of it whose identity number is another, and one of another make: the mask wants the make.
-const DRILL: u64 = 0xA008_8100_2460_1267;
-const SISTER: u64 = 0xA008_8100_2460_1268;
-const OTHER_MAKE: u64 = 0xA008_8100_2480_1268;
-const BUT_IDENTITY: u64 = 0xFFFF_FFFF_FFE0_0000;
+pub const DRILL: u64 = 0xA008_8100_2460_1267;
+pub const SISTER: u64 = 0xA008_8100_2460_1268;
+pub const OTHER_MAKE: u64 = 0xA008_8100_2480_1268;
+pub const BUT_IDENTITY: u64 = 0xFFFF_FFFF_FFE0_0000;
 
 /// The client's NAME and the master NAME in its pool, when the sequence was recorded and now; and what start gives.
 const NEIGHBOURS: [((u64, u64), (u64, u64), u8); 13] = [

@@ -4,6 +4,7 @@
 use super::event::Event;
 use super::facts;
 use super::model::{Master, Outcome, State};
+use super::recording::Sequence;
 use super::stored;
 use std::collections::BTreeMap;
 
@@ -27,6 +28,7 @@ const NUMBERS: &[(&str, &[u8])] = &[
     ("answer", &[0, 1, 2, 3, 4, 15]),
     ("store", &[0, 1, 2, 7]),
     ("load", &[0, 2, 16, 17]),
+    ("edition", &[0, 2, 7, 17]),
 ];
 
 /// Where one number has several rules, each of them.
@@ -64,6 +66,7 @@ const RULES: &[&str] = &[
     "start 9: master NAME, in open bits: the client's own as stored",
     "start 9: master NAME, in open bits: the client's own as loaded",
     "start 9: master NAME, in open bits: another's",
+    "start 9: identity number",
     "start 10: version label",
     "start 10: configuration label",
     "start 11: function",
@@ -175,6 +178,7 @@ const CONTESTS: &[(&str, &[(u8, u8)])] = &[
     ("answer", &[(1, 4), (1, 3), (1, 2), (4, 3), (4, 2), (3, 2)]),
     ("store", &[(1, 2), (2, 7)]),
     ("load", &[(2, 16), (2, 17), (16, 17)]),
+    ("edition", &[(2, 7), (2, 17), (7, 17)]),
 ];
 
 /// In each state the numbers that a verification can give. A master is inactive only while every client is disabled. In playback only the reports can
@@ -197,8 +201,8 @@ const STATES: &[&str] = &["inactive", "ready", "record", "record complete", "pla
 /// Every call that writes is lent nothing, one byte too few, as many as it needs, and more.
 const WRITERS: &[&str] = &["enable", "disable", "indication", "tick", "answer", "store"];
 
-/// What a start of a sequence that was loaded gives.
-const LOADED: &[u8] = &[0, 8, 9, 10, 11, 12];
+/// What a start gives, of a sequence that was loaded, and of one of edition 2.
+const STARTED: &[u8] = &[0, 8, 9, 10, 11, 12];
 
 const FACTS: &[&str] = &[
     "step of trigger 1",
@@ -296,6 +300,48 @@ const FACTS: &[&str] = &[
     "a loaded sequence is stored",
     "a recording replaces a loaded sequence",
     "cancelled, a loaded sequence is kept",
+    "edition 1 set over 1",
+    "edition 1 set over 2",
+    "edition 2 set over 1",
+    "edition 2 set over 2",
+    "an edition set of a loaded sequence",
+    "edition 0 is unknown",
+    "edition 3 is unknown",
+    "an edition is unknown whose lowest byte is that of a known one",
+    "started in edition 1, an identity number differs",
+    "started in edition 1, an identity number differs in its lowest bit alone",
+    "started in edition 1, an identity number differs in its highest bit alone",
+    "start 9 in edition 2, an identity number differs in its lowest bit alone",
+    "start 9 in edition 2, an identity number differs in its highest bit alone",
+    "start 9 in edition 2, by the rule of edition 1 too",
+    "start 9 in edition 2, of a slot that is not the lowest of the sequence",
+    "started in edition 2, the mask leaves the identity number open",
+    "started in edition 2, the mask asks for the identity number",
+    "started in edition 2, a NAME differs above its identity number",
+    "started in edition 2, a NAME differs in the lowest bit above its identity number alone",
+    "verified, an identity number differs, in ready",
+    "verified, an identity number differs, in record",
+    "verified, an identity number differs, in record complete",
+    "verified, every check holds by the rule of edition 1 alone",
+    "verified, every check holds by both rules",
+    "a sequence of edition 2 is played to its end",
+    "a recording replaces a sequence of edition 2",
+    "no step stays, a sequence of edition 2 is kept",
+    "cancelled, a sequence of edition 2 is kept",
+    "on, with a sequence of edition 2",
+    "stored, edition 1",
+    "stored, edition 2",
+    "loaded, edition 1",
+    "loaded, edition 2",
+    "loaded, edition 1 over 2",
+    "loaded, edition 2 over 1",
+    "loaded, edition 2 over 2",
+    "loaded, the sequence that was there in the other edition",
+    "load 16, and the edition is unknown",
+    "load 2, and the edition is unknown",
+    "reader of no edition",
+    "reader of edition 1",
+    "reader of edition 2",
 ];
 
 pub struct Coverage {
@@ -325,7 +371,8 @@ fn others() -> Vec<String> {
     let mut names = owned(RULES);
     names.extend(stored::REASONS.iter().map(|(reason, _)| format!("load 17: {reason}")));
     names.extend(owned(FACTS));
-    names.extend(LOADED.iter().map(|number| format!("start {number} of a loaded sequence")));
+    names.extend(STARTED.iter().map(|number| format!("start {number} of a loaded sequence")));
+    names.extend(STARTED.iter().map(|number| format!("start {number} of a sequence of edition 2")));
     for (call, contests) in CONTESTS {
         names.extend(contests.iter().map(|(first, second)| format!("{call} {first} before {second}")));
     }
@@ -411,6 +458,7 @@ impl Coverage {
             Event::Start if self.loaded && before.state == State::Ready => self.meet(&format!("start {number} of a loaded sequence")),
             Event::Store { .. } if self.loaded && number == 0 => self.meet("a loaded sequence is stored"),
             Event::Cancel if self.loaded && number == 0 => self.meet("cancelled, a loaded sequence is kept"),
+            Event::Edition { .. } if self.loaded && number == 0 => self.meet("an edition set of a loaded sequence"),
             Event::Answer { .. } if self.loaded && before.state != after.state && after.state == State::Ready => {
                 self.meet("a loaded sequence is played to its end");
             }
@@ -419,6 +467,7 @@ impl Coverage {
         let replaced = before.sequence != after.sequence;
         match event {
             Event::Load { .. } => self.loaded |= number == 0,
+            Event::Edition { .. } => {}
             _ if replaced && self.loaded => {
                 self.meet("a recording replaces a loaded sequence");
                 self.loaded = false;
@@ -428,12 +477,14 @@ impl Coverage {
         self.loaded &= !after.sequence.steps.is_empty();
     }
 
-    /// The readers were compared, on a sequence of so many steps.
-    pub fn readers(&mut self, steps: usize) {
+    /// The readers were compared, on this sequence.
+    pub fn readers(&mut self, sequence: &Sequence) {
         self.meet("reader past the last step");
-        if steps > 0 {
-            self.meet("reader of a step");
+        if sequence.steps.is_empty() {
+            return self.meet("reader of no edition");
         }
+        self.meet("reader of a step");
+        self.meet(&format!("reader of edition {}", sequence.edition));
     }
 
     /// The readers of what is being recorded or played back were compared.

@@ -26,6 +26,7 @@ pub enum Event {
     Answer { slot: usize, message: Vec<u8>, room: usize },
     Store { room: usize },
     Load { blocks: Rc<Vec<u8>> },
+    Edition { edition: u32 },
 }
 
 /// The call of an event, in one module or another.
@@ -50,6 +51,7 @@ macro_rules! called {
             Event::Answer { slot, message, .. } => $($calls)::+::answer($m, *slot, message, $out),
             Event::Store { .. } => $($calls)::+::store($m, $out),
             Event::Load { blocks } => $($calls)::+::load($m, blocks),
+            Event::Edition { edition } => $($calls)::+::edition($m, *edition),
         }
     };
 }
@@ -75,6 +77,7 @@ impl Event {
             Event::Answer { .. } => "answer",
             Event::Store { .. } => "store",
             Event::Load { .. } => "load",
+            Event::Edition { .. } => "edition",
         }
     }
 
@@ -138,6 +141,7 @@ impl Event {
             Event::Answer { slot, message, .. } => m.answer(*slot, message, out),
             Event::Store { .. } => m.store(out),
             Event::Load { blocks } => m.load(blocks),
+            Event::Edition { edition } => m.edition(*edition),
         }
     }
 }
@@ -152,6 +156,7 @@ impl fmt::Display for Event {
             Event::Attach { name, pool, .. } => write!(f, " NAME {name:016X}, pool of {} bytes", pool.len())?,
             Event::Report { report, .. } => write!(f, " report {report}")?,
             Event::Load { blocks } => write!(f, " {} bytes", blocks.len())?,
+            Event::Edition { edition } => write!(f, " {edition}")?,
             Event::Tick { millimetres, .. } => write!(f, " {millimetres} mm")?,
             Event::Indication { message, .. } | Event::ClientAbort { message, .. } | Event::Answer { message, .. } => {
                 write!(f, " message {message:02X?}")?

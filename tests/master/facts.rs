@@ -3,7 +3,7 @@
 use super::event::Event;
 use super::kept;
 use super::messages::{self, Status};
-use super::model::{Client, Master, Outcome, Report, State, LAST_TICK, SLOTS};
+use super::model::{Client, Master, Outcome, Refused, Report, State, LAST_TICK, SLOTS};
 use super::playback::{Answered, Playback};
 use super::recording::{Mark, Progress, Sequence};
 use super::stored::{self, Laid, MOST_MILLIMETRES, MOST_TICKS};
@@ -91,7 +91,11 @@ pub fn others(event: &Event, before: &Master, after: &Master, outcome: &Outcome)
             if let (Event::Load { blocks }, 16) = (event, refused.number) {
                 names.push(format!("load 16: {}", wrong_blocks(blocks)));
             }
+            names.extend(unknown_edition(event, refused.number));
         }
+    }
+    if let Event::Start = event {
+        in_edition(before, outcome.as_ref().err(), &mut names);
     }
     if before.state == State::Abort && after.state == State::Abort {
         names.push(format!("abort stays at {}", event.name()));
@@ -115,6 +119,20 @@ fn wrong_blocks(blocks: &[u8]) -> &'static str {
     match stored::wrong_checks(blocks)[..] {
         [only] => Laid::new(blocks).holds(only),
         _ => "several blocks",
+    }
+}
+
+/// An edition that is none, where it was refused for that, or by a number that comes before.
+fn unknown_edition(event: &Event, number: u8) -> Option<String> {
+    match event {
+        Event::Edition { edition: edition @ (0 | 3) } if number == 17 => Some(format!("edition {edition} is unknown")),
+        Event::Edition { edition } if number == 17 && matches!(edition % 256, 1 | 2) => {
+            Some("an edition is unknown whose lowest byte is that of a known one".to_string())
+        }
+        Event::Load { blocks } if stored::reasons(blocks).contains(&"an unknown edition") => {
+            Some(format!("load {number}, and the edition is unknown"))
+        }
+        _ => None,
     }
 }
 
@@ -192,6 +210,7 @@ fn applies(event: &Event, before: &Master) -> Vec<u8> {
         }
         Event::Store { room } => return store_applies(before, *room),
         Event::Load { blocks } => return load_applies(before, blocks),
+        Event::Edition { edition } => return edition_applies(before, *edition),
         Event::Start if ready => return start_applies(before),
         _ => {}
     }
@@ -210,13 +229,19 @@ fn load_applies(before: &Master, blocks: &[u8]) -> Vec<u8> {
     numbers.into_iter().filter(|(applies, _)| *applies).map(|(_, number)| number).collect()
 }
 
+fn edition_applies(before: &Master, edition: u32) -> Vec<u8> {
+    let (none, unknown) = (before.sequence.steps.is_empty(), !matches!(edition, 1 | 2));
+    let numbers = [(before.state != State::Ready, 2), (none, 7), (unknown, 17)];
+    numbers.into_iter().filter(|(applies, _)| *applies).map(|(_, number)| number).collect()
+}
+
 fn start_applies(before: &Master) -> Vec<u8> {
     let mut numbers = Vec::new();
     for (&slot, recorded) in &before.sequence.clients {
         match before.client(slot) {
             Some(client) => {
                 numbers.extend(if client.enabled() { None } else { Some(8) });
-                numbers.extend(verification::names_agree(recorded, client).err().map(|refused| refused.number));
+                numbers.extend(verification::agree(before.sequence.edition, recorded, client).err().map(|refused| refused.number));
                 numbers.extend(verification::labels_agree(recorded, client).err().map(|refused| refused.number));
                 numbers.extend(before.reports_ready(slot).err().map(|refused| refused.number));
             }
@@ -261,11 +286,20 @@ pub fn verified(master: &Master) -> (String, Vec<&'static str>) {
     let slots = sequence.clients.iter().filter(|(&slot, recorded)| master.same(slot, recorded).is_err()).count();
     let steps = sequence.steps.iter().filter(|step| master.known(step).is_err()).count();
     let others = match failed.refused.number {
+        9 if failed.refused.rule == "identity number" => vec![(true, identity_differs(&master.state))],
         8..=10 => vec![(!lowest, "verified, a slot that is not the lowest of the sequence"), (slots > 1, "verified, several slots do not hold")],
         11 => vec![(failed.step > 0, "verified, a step that is not the first"), (steps > 1, "verified, several steps do not hold")],
         _ => Vec::new(),
     };
     (named, others.into_iter().filter(|(met, _)| *met).map(|(_, name)| name).collect())
+}
+
+fn identity_differs(state: &State) -> &'static str {
+    match state {
+        State::Record(_) => "verified, an identity number differs, in record",
+        State::RecordComplete(_) => "verified, an identity number differs, in record complete",
+        _ => "verified, an identity number differs, in ready",
+    }
 }
 
 // What an accepted event met.
@@ -275,7 +309,14 @@ fn accepted(event: &Event, before: &Master, after: &Master, names: &mut Vec<Stri
     match event {
         Event::Enable { slot, .. } if before.client(*slot).map_or(false, |it| it.wanted) => name("enabled again"),
         Event::Disable { slot, .. } if before.client(*slot).map_or(false, |it| !it.wanted) => name("disabled again"),
-        Event::Cancel if !before.sequence.steps.is_empty() => name("cancelled, the old sequence is kept"),
+        Event::Cancel if !before.sequence.steps.is_empty() => {
+            name("cancelled, the old sequence is kept");
+            if after.sequence.edition == 2 {
+                name("cancelled, a sequence of edition 2 is kept");
+            }
+        }
+        Event::On if after.sequence.edition == 2 => name("on, with a sequence of edition 2"),
+        Event::Edition { edition } => name(&format!("edition {edition} set over {}", before.sequence.edition)),
         Event::Report { slot, report } => {
             let client = before.client(*slot).unwrap();
             reported(client, Report::of(*report).unwrap(), state(&before.state), names);
@@ -287,7 +328,12 @@ fn accepted(event: &Event, before: &Master, after: &Master, names: &mut Vec<Stri
             ended(before, after, names);
         }
         Event::Start => started(before, names),
-        Event::Answer { slot, message, .. } => answered(before, *slot, message, names),
+        Event::Answer { slot, message, .. } => {
+            answered(before, *slot, message, names);
+            if after.state == State::Ready && before.sequence.edition == 2 {
+                names.push("a sequence of edition 2 is played to its end".to_string());
+            }
+        }
         Event::Store { .. } => kept("stored", before, names),
         Event::Load { blocks } => {
             kept("loaded", after, names);
@@ -369,8 +415,11 @@ fn ended(before: &Master, after: &Master, names: &mut Vec<String>) {
     };
     let clients = before.recording().map_or(0, |recording| recording.clients.len());
     let (old, kept) = (before.sequence.steps.len(), before.sequence != after.sequence);
+    let edition = before.sequence.edition;
     name(old > 0 && !kept, "no step stays, the old sequence is kept");
+    name(edition == 2 && !kept, "no step stays, a sequence of edition 2 is kept");
     name(kept && old > 0, "a new sequence replaces an old one");
+    name(kept && edition == 2, "a recording replaces a sequence of edition 2");
     name(kept && after.sequence.clients.len() < clients, "a client's record is dropped");
     name(kept && after.sequence.clients.len() == clients, "a client's record stays");
     name(kept && after.sequence.steps.len() == 64, "sequence of 64 steps");
@@ -405,6 +454,46 @@ fn started(before: &Master, names: &mut Vec<String>) {
     }
 }
 
+/// A start, refused or not: by the rule of which edition, and in which bits of its NAME a client is another than the recorded.
+fn in_edition(before: &Master, refused: Option<&Refused>, names: &mut Vec<String>) {
+    let number = refused.map_or(0, |refused| refused.number);
+    let (edition, clients) = (before.sequence.edition, &before.sequence.clients);
+    if edition == 2 && before.state == State::Ready {
+        names.push(format!("start {number} of a sequence of edition 2"));
+    }
+    let by_identity = refused.map_or(false, |refused| refused.rule == "identity number");
+    if edition == 2 && number == 9 && !by_identity {
+        names.push("start 9 in edition 2, by the rule of edition 1 too".to_string());
+    }
+    if number != 0 && !by_identity {
+        return;
+    }
+    let start = format!("{} in edition {edition}, ", if number == 0 { "started" } else { "start 9" });
+    let slots = before.verify().map_or_else(|failed| vec![failed.slot], |()| clients.keys().copied().collect());
+    if slots.first() != clients.keys().next() {
+        names.push(format!("{start}of a slot that is not the lowest of the sequence"));
+    }
+    for slot in slots {
+        let client = before.client(slot).unwrap();
+        let facts = named_otherwise(client.name ^ clients[&slot].name, client.pool.mask);
+        names.extend(facts.into_iter().filter(|(met, _)| *met).map(|(_, fact)| format!("{start}{fact}")));
+    }
+}
+
+/// By the bits in which a NAME differs, and the mask.
+fn named_otherwise(bits: u64, mask: u64) -> [(bool, &'static str); 7] {
+    let (number, above) = (verification::identity_number(bits), bits >> 21);
+    [
+        (number != 0, "an identity number differs"),
+        (bits == 1, "an identity number differs in its lowest bit alone"),
+        (bits == 1 << 20, "an identity number differs in its highest bit alone"),
+        (verification::identity_number(mask) == 0, "the mask leaves the identity number open"),
+        (verification::identity_number(!mask) == 0, "the mask asks for the identity number"),
+        (above != 0, "a NAME differs above its identity number"),
+        (bits == 1 << 21, "a NAME differs in the lowest bit above its identity number alone"),
+    ]
+}
+
 fn answered(before: &Master, slot: usize, message: &[u8], names: &mut Vec<String>) {
     let playback = match playback(before) {
         Some(playback) => playback,
@@ -420,7 +509,8 @@ fn answered(before: &Master, slot: usize, message: &[u8], names: &mut Vec<String
 
 /// A sequence that was stored or loaded.
 fn kept(how: &str, master: &Master, names: &mut Vec<String>) {
-    let Sequence { steps, clients } = &master.sequence;
+    let Sequence { edition, steps, clients } = &master.sequence;
+    names.push(format!("{how}, edition {edition}"));
     match (clients.len(), steps.len()) {
         (8, 64) => names.push(format!("{how}, the largest sequence: 7 blocks")),
         (1, 1) => names.push(format!("{how}, the least sequence: 3 blocks")),
@@ -445,6 +535,9 @@ fn loaded(before: &Master, after: &Master, blocks: &[u8], names: &mut Vec<String
     name(old.steps.is_empty(), "loaded where there was no sequence");
     name(!old.steps.is_empty() && old != new, "loaded over another sequence");
     name(old == new, "loaded, the sequence that was there");
+    let but_edition = old.edition != new.edition && old.steps == new.steps && old.clients == new.clients;
+    name(but_edition, "loaded, the sequence that was there in the other edition");
+    name(old.edition != 0, &format!("loaded, edition {} over {}", new.edition, old.edition));
     name(new.steps.iter().any(|step| step.state == 63), "loaded, a state of 63");
     name(new.steps.iter().any(|step| step.mark == Mark::Ticks(MOST_TICKS)), "loaded, a mark of 35,999 ticks");
     name(new.steps.iter().any(|step| step.mark == Mark::Millimetres(MOST_MILLIMETRES)), "loaded, a mark of 2,359,194,465 mm");

@@ -1,5 +1,5 @@
 //! Acts of a scenario by which sequences are stored and loaded: what this master stored before, what another one did, what
-//! no recording gave, and blocks that are damaged.
+//! no recording gave, and blocks that are damaged; and by which they get an edition.
 
 use super::blocks::{self, Damage, DAMAGES};
 use super::event::Event;
@@ -129,7 +129,7 @@ impl Scenario<'_> {
 
     /// A sequence of the clients that are attached, which no recording gave: marks in any order, and steps in any.
     fn load_made_up(&mut self) {
-        let mut sequence = Sequence::default();
+        let mut sequence = Sequence { edition: self.random.pick(&[1, 2]), ..Sequence::default() };
         for _ in 0..self.random.pick(&[1, 2, 5, 20, 64]) {
             match self.attached() {
                 Some(slot) => self.make_up(slot, &mut sequence),
@@ -154,6 +154,20 @@ impl Scenario<'_> {
         let (state, value) = (self.random.pick(&function.states), self.random.number() as u32);
         sequence.steps.push(Step { slot, function: function.id, state, value, mark });
         sequence.clients.entry(slot).or_insert_with(|| Identity::of(&client));
+    }
+
+    /// One that there is, mostly the second: a recording gives the first.
+    pub fn set_edition(&mut self) {
+        let edition = self.random.pick(&[1, 2, 2]);
+        self.does(Event::Edition { edition });
+    }
+
+    /// At any time: editions that there are, and numbers that would be such editions if they were cut to a byte, to 16 or to
+    /// 31 bits.
+    pub fn any_edition(&mut self) -> Event {
+        let (any, known) = (self.random.number() as u32, self.random.between(1, 2));
+        let edition = self.random.pick(&[known, known, known, 0, 3, 256 + known, 65_536 + known, 1 << 31 | known, u32::MAX, any]);
+        Event::Edition { edition }
     }
 
     /// At any time, with any room.

@@ -4,6 +4,7 @@
 pub mod blocks;
 mod cases;
 mod coverage;
+mod editions;
 pub mod event;
 mod facts;
 mod keeper;
@@ -55,6 +56,7 @@ fn all(run: &mut Run, count: u64, print: bool) {
     cases::all(run);
     screen::all(run);
     winter::all(run);
+    editions::all(run);
     scenarios(run, SEED, count);
     if print {
         run.coverage.print();

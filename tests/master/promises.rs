@@ -48,13 +48,10 @@ impl Promises {
                 }
             }
             (Event::Answer { slot, message, .. }, Some(watch)) => watch.answer(*slot, message),
-            (Event::Store { .. }, _) => {
-                if let Some(promise) = stores(old, given, before, after) {
+            (Event::Store { .. } | Event::Load { .. } | Event::Edition { .. }, _) => {
+                if let Some(promise) = keeps(event, old, given, before, after) {
                     return Some(promise);
                 }
-            }
-            (Event::Load { .. }, _) if given.master != (Master { sequence: given.master.sequence, ..*old }) => {
-                return broken("a load changes nothing but the sequence");
             }
             _ => {}
         }
@@ -96,6 +93,20 @@ fn frame_count(given: &Outcome, before: &[u8], after: &[u8]) -> Broken {
         return broken("bytes past 576 stay");
     }
     None
+}
+
+/// What happens to a sequence in ready.
+fn keeps(event: &Event, old: &Master, given: &Outcome, before: &[u8], after: &[u8]) -> Broken {
+    match event {
+        Event::Store { .. } => stores(old, given, before, after),
+        Event::Load { .. } if given.master != (Master { sequence: given.master.sequence, ..*old }) => {
+            broken("a load changes nothing but the sequence")
+        }
+        Event::Edition { edition } if given.master != old.in_edition(*edition) || !matches!(edition, 1 | 2) => {
+            broken("a sequence gets edition 1 or 2, and nothing else changes")
+        }
+        _ => None,
+    }
 }
 
 /// "blocks of 512 bytes, each with its own check": "the wrapping sum of the block's 127 leading 32-bit words and its number

@@ -42,9 +42,14 @@ impl Identity {
     }
 }
 
-/// Steps in order of start, and the clients that they are of, by slot.
+/// "a recording gives 1"
+pub const RECORDED: u32 = 1;
+
+/// Steps in order of start, and the clients that they are of, by slot. "A sequence has an edition, 1 or 2"; it is 0 "with no
+/// sequence".
 #[derive(Clone, PartialEq, Debug, Default)]
 pub struct Sequence {
+    pub edition: u32,
     pub steps: Vec<Step>,
     pub clients: BTreeMap<usize, Identity>,
 }
@@ -91,7 +96,7 @@ impl Recording {
         let steps: Vec<Step> = self.steps.iter().filter(stays).map(|taken| taken.step).collect();
         let mut clients = self.clients.clone();
         clients.retain(|&slot, _| steps.iter().any(|step| step.slot == slot));
-        Sequence { steps, clients }
+        Sequence { edition: RECORDED, steps, clients }
     }
 
     /// "Not found: 01 unknown function, 02 unknown state, 03 if status is 10 or 11, FF in record complete, 04 if 64 are

@@ -126,8 +126,12 @@ fn clients(identities: &BTreeMap<usize, Identity>) -> [library::Client; SLOTS] {
 }
 
 pub fn sequence(sequence: &Sequence) -> library::Sequence {
-    let mut cells =
-        library::Sequence { count: sequence.steps.len(), clients: clients(&sequence.clients), ..library::NO_SEQUENCE };
+    let mut cells = library::Sequence {
+        count: sequence.steps.len(),
+        edition: sequence.edition,
+        clients: clients(&sequence.clients),
+        ..library::NO_SEQUENCE
+    };
     for (cell, it) in cells.steps.iter_mut().zip(&sequence.steps) {
         *cell = step(it);
     }
@@ -199,6 +203,11 @@ pub mod view {
                 (0, SlotView { taken: 1, wanted, report, name: client.name })
             }
         }
+    }
+
+    /// "0 with no sequence"
+    pub fn edition(master: &Master) -> u32 {
+        if master.sequence.steps.is_empty() { 0 } else { master.sequence.edition }
     }
 
     pub fn step(master: &Master, place: usize) -> (u8, library::Step) {

@@ -15,9 +15,11 @@ const BUFFER: usize = 640;
 const BEHIND: usize = 64;
 /// So many of the last events are printed with a difference.
 const REMEMBERED: usize = 16;
-/// The readers are compared after one in so many events, the verification after one in so many.
+/// The readers are compared after one in so many events, the verification after one in so many, and one in so many of these
+/// in the other edition too.
 const READERS: usize = 150;
 const VERIFIED: usize = 3;
+const OTHER_EDITION: usize = 6;
 /// The call by value is compared with its wrapper at one in so many events.
 const BY_VALUE: usize = 8;
 
@@ -192,7 +194,8 @@ impl Run {
         for place in (0..=count).chain([63, 64, 65, 255, 256, 1 << 32, usize::MAX]) {
             self.compare(&format!("reader of step {place}"), library::step(library, place), view::step(model, place));
         }
-        self.coverage.readers(count);
+        self.compare("reader of the edition", library::sequence_edition(library), view::edition(model));
+        self.coverage.readers(&model.sequence);
         self.compare_progress();
     }
 
@@ -212,8 +215,27 @@ impl Run {
     pub fn compare_verification(&mut self) {
         let wanted = view::verify(&self.model);
         self.compare("verification", library::verify(&self.library), wanted);
+        if !self.model.sequence.steps.is_empty() && self.random.once_in(OTHER_EDITION) {
+            self.compare_other_edition(wanted.0);
+        }
         if let Err(unknown) = self.coverage.verified(&self.model) {
             self.stop(&format!("no rule allows: {unknown}"));
+        }
+    }
+
+    /// By the rule of the other edition. "a sequence passing under 2 would pass under 1"
+    fn compare_other_edition(&mut self, own: u8) {
+        let edition = self.model.sequence.edition;
+        self.model.sequence.edition = 3 - edition;
+        let wanted = view::verify(&self.model);
+        self.model.sequence.edition = edition;
+        let given = library::verify(&self.library.in_edition(3 - edition));
+        self.compare("verification in the other edition", given, wanted);
+        match if edition == 1 { (own, given.0) } else { (given.0, own) } {
+            (0, 0) => self.coverage.meet("verified, every check holds by both rules"),
+            (0, _) => self.coverage.meet("verified, every check holds by the rule of edition 1 alone"),
+            (_, 0) => self.stop("promise broken: what passes under 2 would pass under 1"),
+            _ => {}
         }
     }
 

@@ -4,6 +4,9 @@
 use super::generate::{Pool, Random, Shape, FULL};
 use super::recording::Step;
 
+/// The identity number of a NAME.
+const IDENTITY: u64 = 0x1F_FFFF;
+
 #[derive(Clone)]
 pub struct Sample {
     pub name: u64,
@@ -17,7 +20,7 @@ impl Sample {
         let pool = if random.once_in(large_in) { large(random) } else { small(random) };
         let mut sample = Sample { name: random.number(), pool };
         let mask = random.number();
-        let mask = random.pick(&[0, 1, u64::MAX, u64::MAX, 1 << 63, mask, mask]);
+        let mask = random.pick(&[0, 1, u64::MAX, u64::MAX, 1 << 63, mask, mask, IDENTITY, !IDENTITY]);
         let other = random.number();
         let base = sample.pool.base();
         base.mask = mask;
@@ -74,9 +77,11 @@ pub enum Change {
     ConfigurationLength,
     FunctionMissing,
     StateMissing,
+    IdentityNumber,
+    NameAboveIdentity,
 }
 
-pub const CHANGES: [Change; 14] = [
+pub const CHANGES: [Change; 16] = [
     Change::Nothing,
     Change::Trigger,
     Change::MaskOnly,
@@ -91,6 +96,8 @@ pub const CHANGES: [Change; 14] = [
     Change::ConfigurationLength,
     Change::FunctionMissing,
     Change::StateMissing,
+    Change::IdentityNumber,
+    Change::NameAboveIdentity,
 ];
 
 /// The step is one that the client recorded, if it did.
@@ -119,8 +126,22 @@ pub fn changed(sample: &Sample, change: Change, step: Option<&Step>, random: &mu
         Change::ConfigurationLength => other_length(&mut sample.pool.base().configuration_label),
         Change::FunctionMissing => without_function(&mut sample.pool, step),
         Change::StateMissing => without_state(&mut sample.pool, step),
+        Change::IdentityNumber => other_name(&mut sample, [1, 1 << 20, IDENTITY], random),
+        Change::NameAboveIdentity => other_name(&mut sample, [1 << 21, 1 << 63, !IDENTITY], random),
     }
     sample
+}
+
+/// The NAME is another in one of these, or in some bits of the last; mostly the mask leaves them open. A master NAME that was
+/// the client's own stays its own.
+fn other_name(sample: &mut Sample, bits: [u64; 3], random: &mut Random) {
+    let some = random.number() & bits[2];
+    let bits = random.pick(&[bits[0], bits[1], some]);
+    let own = sample.pool.base().master_name == sample.name;
+    sample.name ^= bits;
+    let base = sample.pool.base();
+    base.mask &= random.pick(&[!bits, !bits, !bits, u64::MAX]);
+    base.master_name = if own { sample.name } else { base.master_name };
 }
 
 fn other_triggers(pool: &mut Pool, random: &mut Random) {

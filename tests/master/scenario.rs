@@ -163,7 +163,7 @@ impl<'a> Scenario<'a> {
         if self.random.once_in(self.habits.changing) {
             return self.come_back();
         }
-        match self.random.below(27) {
+        match self.random.below(29) {
             0 => self.sleep(),
             1 => self.any_tick(),
             2 => self.set_one(),
@@ -182,6 +182,7 @@ impl<'a> Scenario<'a> {
             6 => self.bystander(),
             7 => self.store(),
             8..=9 => self.load(),
+            10..=11 => self.set_edition(),
             _ => self.begin(),
         }
     }

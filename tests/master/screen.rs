@@ -22,14 +22,14 @@ fn name(slot: usize) -> u64 {
 }
 
 /// In any slot, reporting ready.
-fn client(run: &mut Run, slot: usize, name: u64, pool: &Pool) {
+pub fn client(run: &mut Run, slot: usize, name: u64, pool: &Pool) {
     done(run, Event::Attach { slot, name, pool: Rc::new(pool.bytes()) });
     done(run, Event::Enable { slot, room: 8 });
     report(run, slot, 1);
 }
 
 /// The same client goes and comes, with another pool or NAME.
-fn back(run: &mut Run, slot: usize, name: u64, pool: &Pool) {
+pub fn back(run: &mut Run, slot: usize, name: u64, pool: &Pool) {
     done(run, Event::Lost { slot });
     client(run, slot, name, pool);
 }

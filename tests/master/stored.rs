@@ -1,5 +1,5 @@
-//! The model's store: a sequence as blocks, and what any bytes are as blocks. Written from request 1 of document 02 and
-//! from the bytes that are fixed for it. Places are counted from 0. Their sentences are quoted above the lines that
+//! The model's store: a sequence as blocks, and what any bytes are as blocks. Written from requests 1 and 11 of document 02
+//! and from the bytes that are fixed for them. Places are counted from 0. Their sentences are quoted above the lines that
 //! follow them.
 
 use super::model::{self, Done, Master, Outcome};
@@ -44,10 +44,10 @@ fn block(mut body: Vec<u8>, number: u32) -> Vec<u8> {
 }
 
 /// "the first holds the client records' count and the step count, then client records, then steps". Steps begin "in new
-/// blocks".
-pub fn blocks(records: &[[u8; RECORD]], steps: &[[u8; STEP]]) -> Vec<u8> {
-    let counts = [records.len() as u32, steps.len() as u32].map(u32::to_le_bytes);
-    let mut bodies = vec![counts.concat()];
+/// blocks". "The edition stands in the first block."
+pub fn blocks(edition_less_one: u32, records: &[[u8; RECORD]], steps: &[[u8; STEP]]) -> Vec<u8> {
+    let first = [records.len() as u32, steps.len() as u32, edition_less_one].map(u32::to_le_bytes);
+    let mut bodies = vec![first.concat()];
     bodies.extend(records.chunks(RECORDS).map(<[_]>::concat));
     bodies.extend(steps.chunks(STEPS).map(<[_]>::concat));
     bodies.into_iter().zip(1..).flat_map(|(body, number)| block(body, number)).collect()
@@ -77,11 +77,12 @@ pub fn step(head: [u8; 4], mark: u32, value: u32) -> [u8; STEP] {
     bytes
 }
 
-/// The blocks of a sequence. Its records are "Written lowest slot first".
+/// The blocks of a sequence. Its records are "Written lowest slot first". "bytes 8–11 of block 1 hold the edition less one,
+/// so that what was stored before reads as edition 1".
 pub fn of(sequence: &Sequence) -> Vec<u8> {
     let records: Vec<_> = sequence.clients.iter().map(|(&slot, client)| record_of(slot, client)).collect();
     let steps: Vec<_> = sequence.steps.iter().map(step_of).collect();
-    blocks(&records, &steps)
+    blocks(sequence.edition - 1, &records, &steps)
 }
 
 pub fn record_of(slot: usize, client: &Identity) -> [u8; RECORD] {
@@ -116,20 +117,30 @@ pub fn wrong_checks(bytes: &[u8]) -> Vec<usize> {
     wrong.map(|(place, _)| place).collect()
 }
 
-/// Bytes as blocks, and what the first of them counts; 0 where there is none.
+/// Bytes as blocks, what the first of them counts, and the edition less one; 0 where there is none.
 pub struct Laid<'a> {
     length: usize,
     blocks: Vec<&'a [u8]>,
     clients: usize,
     steps: usize,
+    edition_less_one: u32,
 }
 
 impl<'a> Laid<'a> {
     pub fn new(bytes: &'a [u8]) -> Laid<'a> {
         let blocks: Vec<&[u8]> = bytes.chunks_exact(BLOCK).collect();
-        let count = |place| blocks.first().map_or(0, |first| number_at(first, place) as usize);
-        let (clients, steps) = (count(0), count(4));
-        Laid { length: bytes.len(), blocks, clients, steps }
+        let word = |place| blocks.first().map_or(0, |first| number_at(first, place));
+        let (clients, steps) = (word(0) as usize, word(4) as usize);
+        Laid { length: bytes.len(), clients, steps, edition_less_one: word(8), blocks }
+    }
+
+    /// "any other number than 0 and 1 there is an unknown edition"
+    fn edition(&self) -> Option<u32> {
+        match self.edition_less_one {
+            0 => Some(1),
+            1 => Some(2),
+            _ => None,
+        }
     }
 
     fn countable(&self) -> bool {
@@ -236,6 +247,8 @@ pub const REASONS: &[Reason] = &[
     ("more than 8 clients", |it| it.clients > 8),
     ("no step", |it| !it.blocks.is_empty() && it.steps == 0),
     ("more than 64 steps", |it| it.steps > 64),
+    // "an unknown edition gives 17"
+    ("an unknown edition", |it| it.edition().is_none()),
     // "blocks missing or left over"
     ("blocks missing", |it| it.wanted().map_or(false, |wanted| it.blocks.len() < wanted)),
     ("blocks left over", |it| it.wanted().map_or(false, |wanted| it.blocks.len() > wanted)),
@@ -252,7 +265,7 @@ pub const REASONS: &[Reason] = &[
     ("a mark above 35,999 ticks", |it| it.any_step(|step| step[3] == 0 && number_at(step, 4) > MOST_TICKS)),
     ("a mark above 2,359,194,465 mm", |it| it.any_step(|step| step[3] == 1 && number_at(step, 4) > MOST_MILLIMETRES)),
     // "fill not zero": "Everything not named is fill, zero." "Bytes after a label's length are zero."
-    ("fill of the first block", |it| it.blocks.first().map_or(false, |first| filled(&first[8..WORDS]))),
+    ("fill of the first block", |it| it.blocks.first().map_or(false, |first| filled(&first[12..WORDS]))),
     ("byte 3 of a record", |it| it.any_record(|record| record[3] != 0)),
     ("bytes after a version label", |it| it.any_record(|record| filled(&record[20 + version_label(record).len()..83]))),
     ("byte 83 of a record", |it| it.any_record(|record| record[83] != 0)),
@@ -276,8 +289,9 @@ pub fn reasons(bytes: &[u8]) -> Vec<&'static str> {
 /// The sequence of blocks that are at no fault: "read in any order", it has its records by slot.
 pub fn read(bytes: &[u8]) -> Sequence {
     let laid = Laid::new(bytes);
+    let edition = laid.edition().unwrap_or(0);
     let clients = laid.records().into_iter().map(|record| (usize::from(record[0]), identity(record))).collect();
-    Sequence { steps: laid.steps().into_iter().map(read_step).collect(), clients }
+    Sequence { edition, steps: laid.steps().into_iter().map(read_step).collect(), clients }
 }
 
 fn identity(record: &[u8]) -> Identity {

@@ -1,5 +1,5 @@
-//! The model's verification: what is checked before a playback starts. "Start, from ready: 7; then for each slot of the
-//! sequence, lowest first, 8, 9 and 10 before the next slot; then by step 11; then by slot 12."
+//! The model's verification: what is checked before a playback starts, and by which of two rules. "Start, from ready: 7;
+//! then for each slot of the sequence, lowest first, 8, 9 and 10 before the next slot; then by step 11; then by slot 12."
 
 use super::model::{self, Client, Master, Outcome, Refused, Report, State};
 use super::playback::Playback;
@@ -19,6 +19,19 @@ impl Master {
             return Err(failed.refused);
         }
         self.state = State::Playback(Playback::default());
+        model::done()
+    }
+
+    /// "sets the sequence's edition, in ready: 2, 7, 17 unknown edition"
+    pub fn edition(&mut self, edition: u32) -> Outcome {
+        self.ready()?;
+        if self.sequence.steps.is_empty() {
+            return model::refuse(7);
+        }
+        if !matches!(edition, 1 | 2) {
+            return model::refuse(17);
+        }
+        self.sequence.edition = edition;
         model::done()
     }
 
@@ -43,7 +56,7 @@ impl Master {
     /// "8, 9 and 10 before the next slot"
     pub fn same(&self, slot: usize, recorded: &Identity) -> Result<(), Refused> {
         let client = self.present(slot)?;
-        names_agree(recorded, client)?;
+        agree(self.sequence.edition, recorded, client)?;
         labels_agree(recorded, client)
     }
 
@@ -76,10 +89,25 @@ impl Master {
     }
 }
 
+/// "Start goes by the sequence's edition." "Stored sequences of edition 2 demand that the lowest 21 bits of the client's
+/// NAME, its identity number in ISO 11783-5, agree too, no matter what the mask says. Edition 1 files keep the rule they
+/// have."
+pub fn agree(edition: u32, recorded: &Identity, client: &Client) -> Result<(), Refused> {
+    names_agree(recorded, client)?;
+    if edition == 2 && identity_number(recorded.name) != identity_number(client.name) {
+        return model::refuse_by(9, "identity number");
+    }
+    Ok(())
+}
+
+pub fn identity_number(name: u64) -> u64 {
+    name % (1 << 21)
+}
+
 /// "NAMEs agree if they agree on every bit set in the loaded pool's mask." And of the master NAME, document 02, request 2:
 /// "where the stored master NAME equals the stored client NAME, and the loaded one equals the loaded client NAME, the mask
 /// applies to both. Otherwise all 64 bits count, as before."
-pub fn names_agree(recorded: &Identity, client: &Client) -> Result<(), Refused> {
+fn names_agree(recorded: &Identity, client: &Client) -> Result<(), Refused> {
     let mask = client.pool.mask;
     if recorded.name & mask != client.name & mask {
         return model::refuse_by(9, "NAME");

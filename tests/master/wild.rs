@@ -9,7 +9,7 @@ use std::rc::Rc;
 
 impl Scenario<'_> {
     pub fn anything(&mut self) {
-        let event = match self.random.below(32) {
+        let event = match self.random.below(34) {
             0 | 24..=27 => self.plain(),
             1..=3 => self.any_attach(),
             4 => Event::Enable { slot: self.any_slot(), room: self.any_room(8) },
@@ -20,6 +20,7 @@ impl Scenario<'_> {
             14..=15 => self.any_client_abort(),
             28 => self.any_store(),
             29..=31 => self.any_load(),
+            32..=33 => self.any_edition(),
             16..=18 => Event::Tick { millimetres: self.any_millimetres(), room: self.any_room(576) },
             _ => self.any_answer(),
         };

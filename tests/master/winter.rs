@@ -13,8 +13,8 @@ use super::stored;
 use std::rc::Rc;
 
 /// Bytes of the least sequence, and of the largest.
-const LEAST: usize = 3 * 512;
-const LARGEST: usize = 7 * 512;
+pub const LEAST: usize = 3 * 512;
+pub const LARGEST: usize = 7 * 512;
 
 pub fn all(run: &mut Run) {
     written_out(run);
@@ -43,24 +43,24 @@ fn client(run: &mut Run, slot: usize, pool: &Pool) {
     done(run, Event::Report { slot, report: 1 });
 }
 
-fn one_shot(run: &mut Run, slot: usize, function: u8, tan: u8, value: u32) {
+pub fn one_shot(run: &mut Run, slot: usize, function: u8, tan: u8, value: u32) {
     let mut message = vec![0x32, function, 0x02, tan];
     message.extend(value.to_le_bytes());
     done(run, Event::Indication { slot, message, room: 8 });
 }
 
-fn ticks(run: &mut Run, count: u32, millimetres: u32) {
+pub fn ticks(run: &mut Run, count: u32, millimetres: u32) {
     (0..count).for_each(|_| done(run, Event::Tick { millimetres, room: 576 }));
 }
 
 /// A new master that is ready.
-fn fresh(run: &mut Run) {
+pub fn fresh(run: &mut Run) {
     run.begin(0);
     done(run, Event::On);
 }
 
 /// A client in slot 2 has recorded one step at tick 3, with a value of 240.
-fn recorded(run: &mut Run) {
+pub fn recorded(run: &mut Run) {
     fresh(run);
     client(run, 2, &pool());
     done(run, Event::Record);
@@ -71,18 +71,18 @@ fn recorded(run: &mut Run) {
     done(run, Event::Report { slot: 2, report: 1 });
 }
 
-fn store(run: &mut Run, room: usize) -> Vec<u8> {
+pub fn store(run: &mut Run, room: usize) -> Vec<u8> {
     let given = run.event(Event::Store { room });
     must_be("store", given.number, 0);
     run.lent[..given.count as usize].to_vec()
 }
 
-fn load(run: &mut Run, blocks: &[u8]) -> u8 {
+pub fn load(run: &mut Run, blocks: &[u8]) -> u8 {
     run.event(Event::Load { blocks: Rc::new(blocks.to_vec()) }).number
 }
 
 /// The words of a block: so many, each at its place, and the check.
-fn block(words: &[(usize, u32)], check: u32) -> Vec<u8> {
+pub fn block(words: &[(usize, u32)], check: u32) -> Vec<u8> {
     let mut block = [0; 128];
     words.iter().for_each(|&(place, word)| block[place] = word);
     block[127] = check;
@@ -254,8 +254,8 @@ fn refused(run: &mut Run) {
     }
 }
 
-/// Each bit of the eight bytes that count, the check made right again. Another count of steps is taken where the fill that
-/// becomes a step is one of slot 0.
+/// Each bit of the eight bytes that count and of the edition, the check made right again. Another count of steps is taken
+/// where the fill that becomes a step is one of slot 0; the lowest bit of the edition makes it the other one.
 fn first_words(run: &mut Run) {
     let mut random = Random::new(3);
     fresh(run);
@@ -265,12 +265,12 @@ fn first_words(run: &mut Run) {
         let client = sequence.clients.remove(&lowest).unwrap();
         sequence.clients.insert(slot, client);
         sequence.steps.iter_mut().filter(|step| step.slot == lowest).for_each(|step| step.slot = slot);
-        let taken: Vec<usize> = (0..64).filter(|&bit| load(run, &other_count(&sequence, bit)) == 0).collect();
-        must_be("other counts", taken, if slot == 0 { vec![33, 34, 36] } else { Vec::new() });
+        let taken: Vec<usize> = (0..96).filter(|&bit| load(run, &other_word(&sequence, bit)) == 0).collect();
+        must_be("other words", taken, if slot == 0 { vec![33, 34, 36, 64] } else { vec![64] });
     }
 }
 
-fn other_count(sequence: &Sequence, bit: usize) -> Vec<u8> {
+fn other_word(sequence: &Sequence, bit: usize) -> Vec<u8> {
     let mut bytes = stored::of(sequence);
     bytes[bit / 8] ^= 1 << (bit % 8);
     blocks::mend(&mut bytes);

@@ -16,13 +16,13 @@ use Rattle.message.specs.{declared.Written.Written, Messages.writtenOf, Message
 use Rattle.message.specs.declared.Message.the-variants.{Transfer}
 use Rattle.flat.specs.{declared.Flat.Flat, declared.FlatReading.FlatReading, Flat.messageFrom, Flat.readingOf}
 use Rattle.shown.specs.{declared.Shown.Shown, Value.shownOf}
-use Rattle.sequence.specs.{declared.Sequence.Sequence, Sequence.lengthOf}
+use Rattle.sequence.specs.{declared.Sequence.Sequence, Sequence.lengthOf, Editions.editionOf}
 use Rattle.recording.specs.declared.Recording.{Recording}
 use Rattle.playback.specs.declared.{Playback.Playback, named.Named.Named}
 use Rattle.master.specs.{declared.Master.Master, declared.Outcome.Outcome, States.newMaster}
 use Rattle.master.specs.declared.readers.{SlotView.SlotView, StepView.StepView, ClientView.ClientView, Progress.Progress, TakenView.TakenView, SentView.SentView}
 use Rattle.master.specs.Readers.{stateOf, slotView, stepView, clientView, verifyView, progressOf, takenView, sentView}
-use Rattle.events.specs.Events.{Event, on, off, «record», stop, cancel, start, abort, attach, enable, disable, report, lost, indication, clientAbort, tick, answer, store, load}
+use Rattle.events.specs.Events.{Event, on, off, «record», stop, cancel, start, abort, attach, enable, disable, report, lost, indication, clientAbort, tick, answer, store, load, edition}
 use Rattle.events.specs.Events.{apply, lentAfter}
 use Rattle.scm.specs.Version.{version}
 
@@ -47,10 +47,11 @@ pub data Exported : Type 0 where
   made : Exported
   event : Master → Event → Exported
   -- the readers, each with the part of the master that it is handed: scm_master_state; scm_master_slot: the number of one; scm_master_step_count;
-  -- scm_master_step and scm_master_client: the number of one; scm_master_verify; scm_master_progress; scm_master_taken and scm_master_sent: the number of one
+  -- scm_master_sequence_edition; scm_master_step and scm_master_client: the number of one; scm_master_verify; scm_master_progress; scm_master_taken and
+  -- scm_master_sent: the number of one
   readState : ℕ → Exported
   readSlot : Master → ℕ → Exported
-  readStepCount : Sequence → Exported
+  readStepCount readEdition : Sequence → Exported
   readStep readClient : Sequence → ℕ → Exported
   readVerify : Master → Exported
   readProgress : ℕ → Recording → Playback → Exported
@@ -75,6 +76,7 @@ Result (event m e) = Outcome
 Result (readState state) = ℕ
 Result (readSlot m i) = SlotView
 Result (readStepCount q) = ℕ
+Result (readEdition q) = ℕ
 Result (readStep q i) = StepView
 Result (readClient q i) = ClientView
 Result (readVerify m) = Named
@@ -100,6 +102,7 @@ given (event m e) = apply m e
 given (readState state) = stateOf state
 given (readSlot m i) = slotView m i
 given (readStepCount q) = lengthOf q
+given (readEdition q) = editionOf q
 given (readStep q i) = stepView q i
 given (readClient q i) = clientView q i
 given (readVerify m) = verifyView m
@@ -139,9 +142,11 @@ lentGiven (event m (tick mm out)) = lentAfter m (tick mm out)
 lentGiven (event m (answer slot msg out)) = lentAfter m (answer slot msg out)
 lentGiven (event m (store out)) = lentAfter m (store out)
 lentGiven (event m (load blocks)) = []
+lentGiven (event m (edition n)) = []
 lentGiven (readState state) = []
 lentGiven (readSlot m i) = []
 lentGiven (readStepCount q) = []
+lentGiven (readEdition q) = []
 lentGiven (readStep q i) = []
 lentGiven (readClient q i) = []
 lentGiven (readVerify m) = []

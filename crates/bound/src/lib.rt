@@ -1,9 +1,9 @@
 // Each call for C gives back what the definitions say of which the theorems speak: nothing is added here, each function only makes the call.
 ghost use mathlib.Core.List.{[]};
-ghost use Rattle.events.specs.Events.{on, off, «record», stop, cancel, start, abort, attach, enable, disable, report, lost, indication, clientAbort, tick, answer, store, load};
+ghost use Rattle.events.specs.Events.{on, off, «record», stop, cancel, start, abort, attach, enable, disable, report, lost, indication, clientAbort, tick, answer, store, load, edition};
 ghost use Rattle.bound.specs.Exported.{Allowed, Determined};
 ghost use Rattle.bound.specs.Exported.{libraryVersion, poolCheck, poolKept, objectAt, writeObject, poolRewrite, readMessage, writeMessage, writeTransfer, show, showBits, made, event};
-ghost use Rattle.bound.specs.Exported.{readState, readStepCount, readSlot, readStep, readClient, readVerify, readProgress, readTaken, readSent};
+ghost use Rattle.bound.specs.Exported.{readState, readStepCount, readEdition, readSlot, readStep, readClient, readVerify, readProgress, readTaken, readSent};
 use flat::Flat;
 use flat::FlatReading;
 use flat_object::FlatObject;
@@ -205,6 +205,12 @@ pub fn master_load(master: Master, blocks: &[u8]) -> Outcome
     scm::scm_master_load(master, blocks)
 }
 
+pub fn master_edition(master: Master, n: u32) -> Outcome
+    ensures { λ r. ⌜ Allowed (event master (edition n)) (r, []) ⌝ }
+{
+    scm::scm_master_edition(master, n)
+}
+
 pub fn master_state(state: u8) -> u8
     ensures { λ r. ⌜ Allowed (readState state) (r, []) ⌝ }
 {
@@ -221,6 +227,12 @@ pub fn master_step_count(sequence: Sequence) -> usize
     ensures { λ r. ⌜ Allowed (readStepCount sequence) (r, []) ⌝ }
 {
     scm::scm_master_step_count(sequence)
+}
+
+pub fn master_sequence_edition(sequence: Sequence) -> u32
+    ensures { λ r. ⌜ Allowed (readEdition sequence) (r, []) ⌝ }
+{
+    scm::scm_master_sequence_edition(sequence)
 }
 
 pub fn master_step(sequence: Sequence, i: usize) -> StepView

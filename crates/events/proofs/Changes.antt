@@ -14,7 +14,8 @@ use Rattle.message.specs.Fields.{statusNumber}
 use Rattle.client.specs.Clients as client
 use Rattle.client.specs.Clients.{slotCount, isEnabled, blankSlot}
 use Rattle.client.specs.declared.Client.{Client}
-use Rattle.sequence.specs.Sequence.{lastTick}
+use Rattle.sequence.specs.Sequence.{lastTick, lengthOf}
+use Rattle.sequence.specs.Editions.{isEdition, withEdition}
 use Rattle.sequence.specs.declared.Sequence.{Sequence}
 use Rattle.store.specs.Loaded.{loadNumber, loadedOf}
 use Rattle.recording.specs.State.{blankRecording}
@@ -35,7 +36,7 @@ use Rattle.master.specs.Clients.{isReport, noReport, reportFrom, isOver, endOf,
 use Rattle.master.specs.Recording.{isCounted, isInterruption, untimely, recordingEnded, stopped, recorded, interrupted, heard}
 use Rattle.master.specs.Playback.{answered, replied}
 use Rattle.master.specs.Tick.{recordingTicked, playbackTicked, ticked}
-use Rattle.events.specs.Events.{Event, «record», stop, start, report, lost, indication, tick, answer, load, whichCall}
+use Rattle.events.specs.Events.{Event, «record», stop, start, report, lost, indication, tick, answer, load, edition, whichCall}
 use Rattle.events.proofs.Outside.{Outside, clientLost, clientReports, interrupts}
 use Rattle.events.proofs.Choices.{chosen-by, either, is-false}
 
@@ -61,6 +62,8 @@ tickedIn m mm = playback.tickOf (m .playback) (m .sequence) (m .tan) mm
 pub data Replaces (m : Master) : Event → Sequence → Type 0 where
   -- the one that blocks say
   loaded : (blocks : List ℕ) → loadNumber blocks ≡ 0 → Replaces m (load blocks) (loadedOf blocks .sequence)
+  -- the one that there is, with a step at least, in a known edition
+  inEdition : (n : ℕ) → 1 ≤ lengthOf (m .sequence) → isEdition n ≡ true → Replaces m (edition n) (withEdition (m .sequence) n)
 
 pub data Change (m : Master) : Event → Master → Type 0 where
   -- a slot at most

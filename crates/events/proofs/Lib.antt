@@ -14,4 +14,5 @@ pub mod Playable
 pub mod Named
 pub mod Rules
 pub mod Neighbour
+pub mod Editions
 pub mod Accepts

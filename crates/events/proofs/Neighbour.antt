@@ -1,6 +1,6 @@
--- Nobody loses by the rule of 9 that is in force, and who gains: by the laws of two rules, one of which takes what the other takes.
+-- Nobody loses by edition 1's rule of 9, and who gains: by the law of two rules, one of which takes what the other takes.
 use Prim.Native.Nat.{ℕ, _^_, _<_}
-use mathlib.Core.Path.{_≡_, refl, sym, ap, subst, _∙_}
+use mathlib.Core.Path.{_≡_, refl, sym, ap, _∙_}
 use mathlib.Core.Bool.{Bool, true, false, _&&_, true≢false, and-false}
 use mathlib.Core.Logic.{inl, inr}
 use native.Mathlib.Omega.{arith}
@@ -15,16 +15,16 @@ use Rattle.client.specs.declared.Client.{Client}
 use Rattle.client.specs.declared.ClientRecord.{ClientRecord}
 use Rattle.recording.proofs.Steps.{both}
 use Rattle.playback.specs.Pairs.{pairs}
-use Rattle.playback.specs.Verification.{agreeUnder, bothOwn, mastersAgree, namesAgree, verifyOf}
-use Rattle.playback.proofs.Agrees.{agrees, bits, is-own}
+use Rattle.playback.specs.Verification.{agreeUnder, bothOwn, mastersAgree, namesAgree, ruleOf, verifyBy}
+use Rattle.playback.proofs.Agrees.{agrees, bits, is-own, rule-first, rule-parts}
 use Rattle.master.specs.declared.Master.{Master}
 use Rattle.master.specs.Call.{slotAt}
 use Rattle.master.specs.States as state
 use Rattle.events.specs.Events.{start, apply, Given, recordAt}
 use Rattle.events.specs.Neighbour.{inAllBits, numberBefore, Neighbour, Gains, Neighbours}
 use Rattle.events.proofs.Starts.{ready-number, start-exactly}
-use Rattle.events.proofs.Playable.{client-holds, eight-pairs, pair-at, client-at}
-use Rattle.events.proofs.Rules.{Parts, Either, either}
+use Rattle.events.proofs.Playable.{client-holds, client-at}
+use Rattle.events.proofs.Rules.{Either, parting, either}
 
 -- ---- the two rules
 
@@ -32,7 +32,7 @@ module _ (s : Client) (c : ClientRecord) where
   abbrev mask : ℕ
   mask = s .profile .mask
 
-  -- the rule in force takes what 01's took
+  -- it takes what 01's took
   takes : inAllBits s c ≡ true → namesAgree s c ≡ true
   unfolding pick
   takes e = let p = both (agreeUnder mask (s .name) (c .name)) _ e in rw (p .0) (go (bothOwn s c) (p .1))
@@ -64,42 +64,47 @@ module _ (s : Client) (c : ClientRecord) where
   each l n =
       let o = n .own in (
         ap (λ (b : Bool). agreeUnder mask (s .name) (c .name) && b) (ne-eqb _ _ (λ e. n .another (sym (o .1) ∙ e ∙ o .0))) ∙ and-false (agreeUnder mask (s .name) (c .name)),
-        agrees .names-only s c l (record { bits = n .alike; masked = λ o. rw (o .0, o .1) (n .alike); otherwise = λ h. absurd (h o) }),
+        sym (rule-first s c)
+            ∙ agrees .names-only 1 s c l
+            (record { bits = n .alike; masked = λ o. rw (o .0, o .1) (n .alike); otherwise = λ h. absurd (h o); identity = λ z. absurd (omega arith) }),
       )
 
 -- ---- a start
 
 module _ (m : Master) where
   abbrev Compared : Type 0
-  Compared = Either inAllBits namesAgree (numberBefore m) (verifyOf (m .slots) (m .sequence)) (pairs (m .slots) (m .sequence .records))
+  Compared = Either inAllBits (ruleOf 1) (numberBefore m) (verifyBy 1 (m .slots) (m .sequence)) (pairs (m .slots) (m .sequence .records))
 
   compared : Compared
-  unfolding verifyOf
-  compared = either inAllBits namesAgree takes (m .slots) (m .sequence)
+  unfolding verifyBy
+  compared = either inAllBits (ruleOf 1) (λ s c e. rule-first s c ∙ takes s c e) (m .slots) (m .sequence)
 
-  nobody-loses : m .state ≡ state.ready → (numberBefore m ≡ nameDiffers → ⊥) → apply m start .number ≡ numberBefore m
-  nobody-loses s h = go compared
+  first-number : m .state ≡ state.ready → m .sequence .edition ≡ 1 → apply m start .number ≡ verifyBy 1 (m .slots) (m .sequence)
+  first-number s e = ready-number m s ∙ ap (λ (n : ℕ). verifyBy n (m .slots) (m .sequence)) e
+
+  nobody-loses : m .state ≡ state.ready → m .sequence .edition ≡ 1 → (numberBefore m ≡ nameDiffers → ⊥) → apply m start .number ≡ numberBefore m
+  nobody-loses s o h = go compared
     where
       go : Compared → apply m start .number ≡ numberBefore m
-      go (inl e) = ready-number m s ∙ sym e
+      go (inl e) = first-number s o ∙ sym e
       go (inr (e, _)) = absurd (h e)
 
-  who-gains : Given m → m .state ≡ state.ready → (apply m start .number ≡ numberBefore m → ⊥) → (numberBefore m ≡ nameDiffers) × Gains m
-  who-gains g s h = go compared
+  who-gains : Given m → m .state ≡ state.ready → m .sequence .edition ≡ 1 → (apply m start .number ≡ numberBefore m → ⊥) → (numberBefore m ≡ nameDiffers) × Gains m
+  who-gains g s o h = go compared
     where
       go : Compared → (numberBefore m ≡ nameDiffers) × Gains m
-      go (inl e) = absurd (h (ready-number m s ∙ sym e))
-      go (inr (e, (slot, l, p))) =
-          let k : slot < 8 = omega (arith, l, eight-pairs m g) in
-          let (u, n, w) = subst (Parts inAllBits namesAgree) (pair-at m g slot k) p in
-          (e, record { slot = slot; one-of-eight = k; of-sequence = u; neighbour = kind (slotAt m slot) (recordAt m slot) n w })
+      go (inl e) = absurd (h (first-number s o ∙ sym e))
+      go (inr (e, p)) =
+          let (slot, k, (u, n, w)) = parting inAllBits (ruleOf 1) m g p in
+          (e, record { slot = slot; one-of-eight = k; of-sequence = u; neighbour = kind (slotAt m slot) (recordAt m slot) n (rule-parts 1 (slotAt m slot) (recordAt m slot) w .0) })
 
   no-other :
       Given m → apply m start .number ≡ completed → (slot : ℕ) → slot < 8 → isUsed (recordAt m slot) ≡ true
       → inAllBits (slotAt m slot) (recordAt m slot) ≡ false → Neighbour (slotAt m slot) (recordAt m slot)
   no-other g e slot k u h =
-      kind (slotAt m slot) (recordAt m slot) h
-      (client-holds namesAgree (slotAt m slot) (recordAt m slot) u (client-at namesAgree m g (start-exactly .only m e .1) slot k) .1)
+      let n : ℕ = m .sequence .edition in
+      let c = client-holds (ruleOf n) (slotAt m slot) (recordAt m slot) u (client-at (ruleOf n) m g (start-exactly .only m e .1) slot k) in
+      kind (slotAt m slot) (recordAt m slot) h (rule-parts n (slotAt m slot) (recordAt m slot) (c .1) .0)
 
 pub neighbours : Neighbours
 neighbours = record { nobody-loses = nobody-loses; who-gains = who-gains; no-other = no-other; each = each }

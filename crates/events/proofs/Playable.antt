@@ -22,7 +22,7 @@ use Rattle.sequence.specs.declared.Sequence.{Sequence}
 use Rattle.sequence.specs.Sound.{isOf, SoundSequence}
 use Rattle.recording.proofs.Steps.{both}
 use Rattle.playback.specs.Pairs.{pairs}
-use Rattle.playback.specs.Verification.{Rule, namesAgree, labelsAgree, ofSequence, clientChecks, stepChecks, checksBy}
+use Rattle.playback.specs.Verification.{Rule, ruleOf, labelsAgree, ofSequence, clientChecks, stepChecks, checksBy}
 use Rattle.playback.specs.Promises.{EveryHolds}
 use Rattle.playback.proofs.Pairs.{length-pairs, getD-pairs}
 use Rattle.playback.proofs.Holding.{clients-hold, steps-hold, step-listed}
@@ -34,10 +34,10 @@ use Rattle.master.specs.Clients.{isOver, endOf, followed, reportFrom, reportedS
 use Rattle.master.specs.Recording.{Hearing, recordingEnded, recordCall, stopCall, cancelCall, interrupted, heard, indicationCall}
 use Rattle.master.specs.Playback.{startCall, abortCall, clientAbortCall, answered, replied, answerCall}
 use Rattle.master.specs.Tick.{playbackTicked, ticked, tickCall}
-use Rattle.master.specs.Storing.{storeCall, loadCall}
+use Rattle.master.specs.{Storing.storeCall, Storing.loadCall, Editions.editionCall}
 use Rattle.master.specs.Messages.{executionIn}
 use Rattle.master.proofs.Calls.{passed, below}
-use Rattle.events.specs.Events.{Event, on, off, «record», stop, cancel, start, abort, attach, enable, disable, report, lost, indication, clientAbort, tick, answer, store, load, callOf, Given, recordAt}
+use Rattle.events.specs.Events.{Event, on, off, «record», stop, cancel, start, abort, attach, enable, disable, report, lost, indication, clientAbort, tick, answer, store, load, edition, callOf, Given, recordAt}
 use Rattle.events.proofs.Choices.{chosen, chosen-by, either}
 use Rattle.events.proofs.Changes.{Near, itself, slotted, Change, rested, moved, dropped, broken, recordStarts, recordWaits, recordEnds, recordHears, recordHearsLast, recordTicks, playStarts, playTicks, playTicksLast, playHears, playHearsLast, replaced, not-recording}
 use Rattle.events.proofs.Invariant.{done-change, given-by, Invariant, always}
@@ -217,7 +217,7 @@ module _ (m : Master) (g : Given m) (p : m .state ≡ 4) where
   barred h = absurd (omega (arith, p, eqb-true (m .state) 1 (not-false _ h)))
 
   stays : (e : Event) → numberOf (callOf m e) ≡ 0 → callOf m e .after .state ≡ 4 → Stays (callOf m e .after)
-  unfolding onCall offCall attachCall wantCall reportCall lostCall recordCall stopCall cancelCall indicationCall startCall abortCall clientAbortCall answerCall tickCall storeCall loadCall reported clients.lost ended
+  unfolding onCall offCall attachCall wantCall reportCall lostCall recordCall stopCall cancelCall indicationCall startCall abortCall clientAbortCall answerCall tickCall storeCall loadCall editionCall reported clients.lost ended
   stays on z w = absurd (omega arith)
   stays off z w = absurd (omega arith)
   stays «record» z w = absurd (omega arith)
@@ -237,6 +237,7 @@ module _ (m : Master) (g : Given m) (p : m .state ≡ 4) where
   stays (answer slot msg out) z w = replied-same slot msg
   stays (store out) z w = same _ refl refl
   stays (load blocks) z w = barred (passed _ _ _ _ _ z .allowed)
+  stays (edition n) z w = barred (passed _ _ _ _ _ z .allowed)
 
 -- ---- every call
 
@@ -258,7 +259,7 @@ begins m e n (recordHears slot msg out i l) g z h w = absurd (h w)
 begins m e n (recordHearsLast slot msg out i l) g z h w = absurd (omega arith)
 begins m e n (recordTicks mm out i l t) g z h w = absurd (h w)
 begins m e n (playStarts r) g z h w =
-    λ i l. let k = at-start namesAgree m g (start-exactly .only m (number-is m (callOf m start) ∙ z) .1) i l in record { client = k .client; state = k .state }
+    λ i l. let k = at-start (ruleOf (m .sequence .edition)) m g (start-exactly .only m (number-is m (callOf m start) ∙ z) .1) i l in record { client = k .client; state = k .state }
 begins m e n (playTicks mm out p l t) g z h w = absurd (h w)
 begins m e n (playTicksLast mm out p) g z h w = absurd (omega arith)
 begins m e n (playHears slot msg out p) g z h w = absurd (h w)

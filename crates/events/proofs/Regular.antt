@@ -4,7 +4,7 @@ use mathlib.Core.Path.{_≡_, refl, sym, ap, _∙_}
 use mathlib.Core.Bool.{Bool, true, false}
 use native.Mathlib.Omega.{arith}
 use lib.ListN.{length}
-use borrow.Author.Tests.{leb-false, ltb-true, not-false}
+use borrow.Author.Tests.{eqb-true, leb-false, ltb-true, not-false}
 use Rattle.arrays.specs.Arrays.{more}
 use Rattle.arrays.proofs.Fill.{length-pad}
 use Rattle.arrays.proofs.Every.{every-weaken, neither}
@@ -13,6 +13,7 @@ use Rattle.message.specs.declared.Reply.{Reply}
 use Rattle.client.specs.Clients.{slotCount}
 use Rattle.client.specs.declared.Client.{Client}
 use Rattle.sequence.specs.Sequence.{mostSteps, lastTick, blankStep, stepsOf, lengthOf}
+use Rattle.sequence.specs.Editions.{editionOf}
 use Rattle.sequence.specs.declared.Sequence.{Sequence}
 use Rattle.recording.specs.State.{blankRecording}
 use Rattle.recording.specs.Indication as recording
@@ -40,7 +41,7 @@ use Rattle.master.specs.Recording.{recordingEnded}
 use Rattle.events.specs.Events.{Event, Given}
 use Rattle.events.specs.Demand1.{Counted, NeverCut, NeverBites}
 use Rattle.events.proofs.Choices.{chosen, chosen-by}
-use Rattle.events.proofs.Changes.{Replaces, loaded}
+use Rattle.events.proofs.Changes.{Replaces, loaded, inEdition}
 use Rattle.events.proofs.Invariant.{Invariant, always}
 use Rattle.events.proofs.Rest.{given-blank}
 use Rattle.events.proofs.Loads.{sound-loaded}
@@ -190,7 +191,19 @@ played-in m tan p h k l few = record { recording = h .recording; sequence = h .s
 
 -- what replaces a sound sequence is sound
 sound-replaced : (m : Master) (e : Event) (q : Sequence) → Replaces m e q → SoundSequence (m .sequence) → SoundSequence q
+unfolding stepsOf
 sound-replaced m e q (loaded blocks z) s = sound-loaded blocks z
+sound-replaced m e q (inEdition n h k) s =
+    record {
+      few = s .few;
+      blank = s .blank;
+      within = s .within;
+      slots = s .slots;
+      recorded = s .recorded;
+      unrecorded = s .unrecorded;
+      edition = λ _. k;
+      no-edition = λ z. absurd (omega (arith, h));
+    }
 
 stay-regular : Invariant Regular
 unfolding ended recordingEnded Goes SameCounts
@@ -238,6 +251,12 @@ never-cut = record {
   adds = one-more;
 }
 
+-- the edition as it is read
+read-edition : (q : Sequence) → SoundSequence q → editionOf q ≡ q .edition
+unfolding editionOf
+read-edition q s =
+    chosen-by (λ (n : ℕ). n ≡ q .edition) _ _ _ (λ t. sym (s .no-edition (let z = eqb-true (lengthOf q) 0 t in omega (arith, s .few)))) (λ _. refl)
+
 pub never-bites : NeverBites
 never-bites m g =
     let r = given-regular m g in
@@ -249,6 +268,8 @@ never-bites m g =
       sent = r .sent;
       state = r .state;
       tan = r .tan;
+      edition = read-edition (m .sequence) (r .sequence);
+      known = r .sequence .edition;
       counted = omega (arith, r .sequence .few);
       looked-up = every-weaken (λ s l. verifies .bound (m .slots) s l) (stepsOf (m .sequence)) (r .sequence .within);
     }

@@ -7,12 +7,13 @@ use mathlib.Core.List.{List}
 use native.Mathlib.Omega.{arith}
 use lib.Dec.{eqb, leb, ltb}
 use lib.ListN.{length}
-use borrow.Author.Tests.{eqb-true, ltb-false, not-false}
+use borrow.Author.Tests.{eqb-true, eqb-false, ltb-false, not-false}
 use Rattle.octets.specs.Pick.{pick}
 use Rattle.octets.specs.Numbers.{tooShort, wrongState, wrongSlot, wrongValue, noStep, notReady, noMatch, notStored}
 use Rattle.octets.proofs.Tests.{pick-both}
 use Rattle.client.specs.Clients.{isEnabled}
 use Rattle.recording.proofs.Steps.{both}
+use Rattle.sequence.specs.{Sequence.lengthOf, Editions.isEdition, declared.Sequence.Sequence}
 use Rattle.playback.specs.Answer.{answeredOf}
 use Rattle.playback.specs.Verification.{verifyOf}
 use Rattle.playback.specs.declared.Answered.{Answered}
@@ -26,13 +27,13 @@ use Rattle.master.specs.Clients.{awake, unfit, unexpected, onCall, offCall, att
 use Rattle.master.specs.Recording.{unready, untimely, recordCall, stopCall, cancelCall, indicationCall}
 use Rattle.master.specs.Playback.{answered, unheeded, unmatched, startCall, abortCall, clientAbortCall, answerCall}
 use Rattle.master.specs.Tick.{tickCall}
-use Rattle.master.specs.Storing.{unstored, storeCall, loadCall}
+use Rattle.master.specs.{Storing.unstored, Storing.storeCall, Storing.loadCall, Editions.unset, Editions.editionCall}
 use Rattle.master.proofs.Calls.{Passed, below}
-use Rattle.events.specs.Events.{Event, on, off, «record», stop, cancel, start, abort, attach, enable, disable, report, lost, indication, clientAbort, tick, answer, store, load, callOf}
+use Rattle.events.specs.Events.{Event, on, off, «record», stop, cancel, start, abort, attach, enable, disable, report, lost, indication, clientAbort, tick, answer, store, load, edition, callOf}
 use Rattle.events.specs.Demand1.{isAmong}
 use Rattle.events.proofs.Outside.{operator, clientAborts}
 use Rattle.events.proofs.Choices.{chosen, chosen-by}
-use Rattle.events.proofs.Changes.{Rests, low, passes, Change, itself, rested, moved, dropped, broken, recordStarts, playStarts, loaded, replaced, slot-change, stopped-change, lost-change, reported-change, heard-change, ticked-change, replied-change}
+use Rattle.events.proofs.Changes.{Rests, low, passes, Change, itself, rested, moved, dropped, broken, recordStarts, playStarts, loaded, inEdition, replaced, slot-change, stopped-change, lost-change, reported-change, heard-change, ticked-change, replied-change}
 
 -- ---- numbers
 
@@ -86,6 +87,16 @@ plays m number e = go (isPlaying m) e
 is-recording : (m : Master) → m .state ≡ state.recording → isRecording m ≡ true
 is-recording m e = rw e
 
+-- an edition is set where there is a step
+set : (q : Sequence) (n : ℕ) → unset q n ≡ 0 → (1 ≤ lengthOf q) × (isEdition n ≡ true)
+unfolding unset pick
+set q n e = go (eqb (lengthOf q) 0) refl (isEdition n) e
+  where
+    go : (a : Bool) → eqb (lengthOf q) 0 ≡ a → (b : Bool) → pick a noStep (pick b 0 notStored) ≡ 0 → (1 ≤ lengthOf q) × (b ≡ true)
+    go true f b e = absurd (omega (arith, e))
+    go false f true e = (let z = eqb-false (lengthOf q) 0 f in omega arith, refl)
+    go false f false e = absurd (omega (arith, e))
+
 -- ---- the table
 
 abbrev Passes : Call → Type 0
@@ -117,7 +128,7 @@ is m e inactive short wrong absent barred own change =
     }
 
 pub row : (m : Master) (e : Event) → Row m e
-unfolding onCall offCall attachCall wantCall reportCall lostCall recordCall stopCall cancelCall indicationCall startCall abortCall clientAbortCall answerCall tickCall storeCall loadCall loadNumber unstored awake unfit unready unexpected untimely unheeded unmatched
+unfolding onCall offCall attachCall wantCall reportCall lostCall recordCall stopCall cancelCall indicationCall startCall abortCall clientAbortCall answerCall tickCall storeCall loadCall editionCall loadNumber unstored unset awake unfit unready unexpected untimely unheeded unmatched
 row m on =
     is m on (λ s h. absurd (h refl)) never never never refl refl
     (λ p. moved itself state.ready (resting m state.inactive (omega arith) (p .allowed)) (omega arith))
@@ -130,7 +141,7 @@ row m «record» =
 row m stop = is m stop (λ s h. rw s) never never never refl refl (λ p. stopped-change m (is-recording m (eqb-true _ _ (not-false _ (p .allowed)))))
 row m cancel = is m cancel (λ s h. rw s) never never never refl refl (λ p. dropped {e = cancel} itself (not-false _ (p .allowed)) (omega arith))
 row m start =
-    is m start (λ s h. rw s) never never never refl (verified m (verifyOf (m .slots) (m .sequence)) (verifies .numbers (m .slots) (m .sequence)))
+    is m start (λ s h. rw s) never never never refl (verified m (verifyOf (m .slots) (m .sequence)) (verifies .numbers (m .sequence .edition) (m .slots) (m .sequence)))
     (λ p. playStarts (resting m state.ready (omega arith) (p .allowed)))
 row m abort = is m abort (λ s h. rw s) never never never refl refl (λ p. broken itself (not-false _ (p .allowed)) operator)
 row m (attach slot name pool) =
@@ -161,3 +172,6 @@ row m (store out) =
 row m (load blocks) =
     is m (load blocks) (λ s h. rw s) never never never refl (pick-both (Named m (load blocks)) _ refl (pick-both (Named m (load blocks)) _ refl refl))
     (λ p. replaced (eqb-true _ _ (not-false _ (p .allowed))) (loaded blocks (p .goes)))
+row m (edition n) =
+    is m (edition n) (λ s h. rw s) never never never refl (pick-both (Named m (edition n)) _ refl (pick-both (Named m (edition n)) _ refl refl))
+    (λ p. let b = set (m .sequence) n (p .goes) in replaced (eqb-true _ _ (not-false _ (p .allowed))) (inEdition n (b .0) (b .1)))

@@ -1,7 +1,7 @@
 -- Two rules of 9, the second of which takes whatever the first takes: a start gets the same number by both, or it gets 9 by the first, and at a client of the
 -- sequence the two part.
 use Prim.Native.Nat.{ℕ, suc, _<_}
-use mathlib.Core.Path.{_≡_, refl, sym, ap, _∙_}
+use mathlib.Core.Path.{_≡_, refl, sym, ap, subst, _∙_}
 use mathlib.Core.Bool.{Bool, true, false, not, true≢false}
 use mathlib.Core.Logic.{_⊎_, inl, inr}
 use mathlib.Core.List.{List, [], _∷_, _++_, flatMap, append-assoc}
@@ -17,6 +17,9 @@ use Rattle.client.specs.declared.ClientRecord.{ClientRecord}
 use Rattle.sequence.specs.declared.Sequence.{Sequence}
 use Rattle.playback.specs.Pairs.{pairs}
 use Rattle.playback.specs.Verification.{Check, Rule, firstFailing, labelsAgree, ofSequence, clientChecks, checksBy}
+use Rattle.master.specs.{declared.Master.Master, Call.slotAt}
+use Rattle.events.specs.Events.{Given, recordAt}
+use Rattle.events.proofs.Playable.{eight-pairs, pair-at}
 
 -- ---- "8, 9 and 10" of a slot, if it is one of the sequence, by two rules, and the checks that follow
 
@@ -54,6 +57,14 @@ module _ (narrow wide : Rule) where
 
   abbrev MeetsAt : Client × ClientRecord → List Check → List Check → Type 0
   MeetsAt x r r′ = Meets (isUsed (x .1)) (isEnabled (x .0)) (narrow (x .0) (x .1)) (wide (x .0) (x .1)) (labelsAgree (x .0) (x .1)) r r′
+
+  -- on a master that calls give the client is that of one of the eight slots
+  pub parting :
+      (m : Master) → Given m → PartsIn (pairs (m .slots) (m .sequence .records))
+      → (slot : ℕ) × (slot < 8) × Parts (slotAt m slot, recordAt m slot)
+  parting m g (slot, l, p) =
+      let k : slot < 8 = omega (arith, l, eight-pairs m g) in
+      (slot, k, subst Parts (pair-at m g slot k) p)
 
 module _ (narrow wide : Rule) (takes : (s : Client) (c : ClientRecord) → narrow s c ≡ true → wide s c ≡ true) where
   here : (x : Client × ClientRecord) (r r′ : List Check) → MeetsAt narrow wide x r r′

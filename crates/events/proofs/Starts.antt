@@ -36,23 +36,23 @@ module _ (m : Master) where
   pub ready-number : m .state ≡ state.ready → apply m start .number ≡ verifyOf (m .slots) (m .sequence)
   ready-number s = start-number m ∙ verified s
 
-  starts : m .state ≡ state.ready → EveryHolds (checksOf (m .slots) (m .sequence)) → apply m start .number ≡ completed
-  starts s h = ready-number s ∙ verifies .starts (m .slots) (m .sequence) h
+  starts : m .state ≡ state.ready → EveryHolds (checksOf (m .sequence .edition) (m .slots) (m .sequence)) → apply m start .number ≡ completed
+  starts s h = ready-number s ∙ verifies .starts (m .sequence .edition) (m .slots) (m .sequence) h
 
-  only : apply m start .number ≡ completed → (m .state ≡ state.ready) × EveryHolds (checksOf (m .slots) (m .sequence))
+  only : apply m start .number ≡ completed → (m .state ≡ state.ready) × EveryHolds (checksOf (m .sequence .edition) (m .slots) (m .sequence))
   only e =
       let s : m .state ≡ state.ready = is-ready (sym (start-number m) ∙ e) in
-      (s, verifies .only (m .slots) (m .sequence) (sym (ready-number s) ∙ e))
+      (s, verifies .only (m .sequence .edition) (m .slots) (m .sequence) (sym (ready-number s) ∙ e))
 
   playing : apply m start .number ≡ completed → apply m start .master .state ≡ state.playback
   unfolding startCall
   playing e = ap (λ (k : Master). k .state) (after-is m (startCall m) e)
 
   names :
-      m .state ≡ state.ready → (apply m start .number ≡ completed → ⊥) → FirstFails (checksOf (m .slots) (m .sequence)) (apply m start .number)
+      m .state ≡ state.ready → (apply m start .number ≡ completed → ⊥) → FirstFails (checksOf (m .sequence .edition) (m .slots) (m .sequence)) (apply m start .number)
   names s h =
       rw (ready-number s)
-      (verifies .names (m .slots) (m .sequence) (λ e. h (ready-number s ∙ e)))
+      (verifies .names (m .sequence .edition) (m .slots) (m .sequence) (λ e. h (ready-number s ∙ e)))
 
 pub start-exactly : StartExactly
 start-exactly = record { starts = starts; only = only; playing = playing; barred = λ m h. start-number m ∙ barred m h; names = names }

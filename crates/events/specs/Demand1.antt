@@ -9,6 +9,7 @@ use Rattle.octets.specs.Numbers.{completed, tooShort, wrongState, wrongSlot, wr
 use Rattle.arrays.specs.{Arrays.some, Arrays.more, Every.Every}
 use Rattle.client.specs.Clients.{slotCount, blankSlot}
 use Rattle.sequence.specs.Sequence.{mostSteps, lastTick, blankStep, lengthOf, stepsOf}
+use Rattle.sequence.specs.Editions.{isEdition, editionOf}
 use Rattle.recording.specs.Indication.{heldOf}
 use Rattle.playback.specs.{State.blankSent, Promises.EveryHolds, Promises.FirstFails}
 use Rattle.playback.specs.Verification.{isListed, isInPool, checksOf}
@@ -68,20 +69,21 @@ Inactive =
     (m : Master) (e : Event) → m .state ≡ state.inactive → (e ≡ on → ⊥) → isAmong (apply m e .number) whileInactive ≡ true
 
 -- ---- "starts exactly when": "Start, from ready: 7; then for each slot of the sequence, lowest first, 8, 9 and 10 before the next slot; then by step 11;
--- then by slot 12."
+-- then by slot 12." 02, request 11: "Prove once, over both editions, that verification names the first check that does not hold": by the edition of the
+-- sequence, whichever it is
 
 pub record StartExactly : Type 0 where
   -- it starts when the master is ready and every check holds
-  pub starts : (m : Master) → m .state ≡ state.ready → EveryHolds (checksOf (m .slots) (m .sequence)) → apply m start .number ≡ completed
+  pub starts : (m : Master) → m .state ≡ state.ready → EveryHolds (checksOf (m .sequence .edition) (m .slots) (m .sequence)) → apply m start .number ≡ completed
   -- and only then
-  pub only : (m : Master) → apply m start .number ≡ completed → (m .state ≡ state.ready) × EveryHolds (checksOf (m .slots) (m .sequence))
+  pub only : (m : Master) → apply m start .number ≡ completed → (m .state ≡ state.ready) × EveryHolds (checksOf (m .sequence .edition) (m .slots) (m .sequence))
   -- the master is in playback then
   pub playing : (m : Master) → apply m start .number ≡ completed → apply m start .master .state ≡ state.playback
   -- otherwise 2 outside ready, and in ready the number of the first check that does not hold
   pub barred : (m : Master) → (m .state ≡ state.ready → ⊥) → apply m start .number ≡ wrongState
   pub names :
       (m : Master) → m .state ≡ state.ready → (apply m start .number ≡ completed → ⊥)
-      → FirstFails (checksOf (m .slots) (m .sequence)) (apply m start .number)
+      → FirstFails (checksOf (m .sequence .edition) (m .slots) (m .sequence)) (apply m start .number)
 
 -- ---- what is counted is never cut short: a count of 32 bits would stop at 4,294,967,295
 
@@ -107,6 +109,9 @@ pub record Bounded (m : Master) : Type 0 where
   pub sent : m .playback .sent ≤ m .sequence .count
   pub state : m .state ≤ state.abort
   pub tan : m .tan ≤ 255
+  -- the edition is 1 or 2, and 0 with no sequence, as it is read
+  pub edition : editionOf (m .sequence) ≡ m .sequence .edition
+  pub known : 1 ≤ m .sequence .count → isEdition (m .sequence .edition) ≡ true
   -- so the tests against these bounds decide nothing: all steps count, and each is looked up in its client's pool
   pub counted : lengthOf (m .sequence) ≡ m .sequence .count
   pub looked-up : Every (λ s. isInPool (m .slots) s ≡ isListed (getD (m .slots) (s .slot) blankSlot .profile) (s .function) (s .state)) (stepsOf (m .sequence))

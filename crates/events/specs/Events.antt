@@ -9,10 +9,11 @@ use Rattle.master.specs.Call.{Call, outcomeOf, leavesOf}
 use Rattle.master.specs.Clients.{onCall, offCall, attachCall, wantCall, reportCall, lostCall}
 use Rattle.master.specs.Recording.{recordCall, stopCall, cancelCall, indicationCall}
 use Rattle.master.specs.Playback.{startCall, abortCall, clientAbortCall, answerCall}
-use Rattle.master.specs.Storing.{storeCall, loadCall}
+use Rattle.master.specs.{Storing.storeCall, Storing.loadCall, Editions.editionCall}
 
 -- a call and its inputs. attach: slot, NAME, pool; enable, disable: slot, lent bytes; report: slot, number; lost: slot; indication (E.4) and answer
--- (E.7): slot, message, lent bytes; clientAbort (E.3): slot, message; tick: millimetres, lent bytes; store: lent bytes; load: blocks
+-- (E.7): slot, message, lent bytes; clientAbort (E.3): slot, message; tick: millimetres, lent bytes; store: lent bytes; load: blocks; edition: its
+-- number
 pub data Event : Type 0 where
   on off «record» stop cancel start abort : Event
   attach : ℕ → ℕ → List ℕ → Event
@@ -24,6 +25,7 @@ pub data Event : Type 0 where
   tick : ℕ → List ℕ → Event
   answer : ℕ → List ℕ → List ℕ → Event
   store load : List ℕ → Event
+  edition : ℕ → Event
 
 -- the call, as its contract has it
 abbrev pub callOf : Master → Event → Call
@@ -45,6 +47,7 @@ callOf m (tick mm out) = tickCall m mm out
 callOf m (answer slot msg out) = answerCall m slot msg out
 callOf m (store out) = storeCall m out
 callOf m (load blocks) = loadCall m blocks
+callOf m (edition n) = editionCall m n
 
 -- which call it is: one that a recording or a playback takes something from, a load, or any other, with a number of its own
 pub data Sort : Event → Type 0 where
@@ -74,6 +77,7 @@ sortOf (tick mm out) = ticks mm out
 sortOf (answer slot msg out) = answers slot msg out
 sortOf (store out) = other 12
 sortOf (load blocks) = loads blocks
+sortOf (edition n) = other 13
 
 -- the call's number, whatever its inputs
 abbrev pub numberBy : {e : Event} → Sort e → ℕ

@@ -6,7 +6,7 @@ use mathlib.Core.List.{List, [], _∷_, _++_}
 use lib.ListN.{replicate}
 use Rattle.pool.specs.Cases as pools
 use Rattle.store.specs.Stored.{storedOf}
-use Rattle.events.specs.Events.{Event, on, off, «record», stop, cancel, start, abort, attach, enable, disable, report, lost, indication, clientAbort, tick, answer, store, load, whichCall, apply, run}
+use Rattle.events.specs.Events.{Event, on, off, «record», stop, cancel, start, abort, attach, enable, disable, report, lost, indication, clientAbort, tick, answer, store, load, edition, whichCall, apply, run}
 
 -- ---- a pool whose version label has n bytes: function 5 with state 2
 
@@ -145,3 +145,5 @@ examplesOf (store out) =
 examplesOf (load blocks) =
     byCalls (on ∷ []) (load storedBlocks) refl ∷ byCalls [] (load []) refl ∷ byCalls (on ∷ []) (load (replicate 512 0)) refl
     ∷ byCalls (on ∷ []) (load []) refl ∷ []
+examplesOf (edition n) =
+    byCalls recordedRun (edition 2) refl ∷ byCalls [] (edition 2) refl ∷ byCalls (on ∷ []) (edition 2) refl ∷ byCalls recordedRun (edition 3) refl ∷ []

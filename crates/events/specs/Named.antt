@@ -2,7 +2,7 @@
 use Prim.Native.Nat.{_≤_, _<_}
 use mathlib.Core.Path.{_≡_}
 use Rattle.octets.specs.Numbers.{notEnabled, labelDiffers, notInPool, notReady}
-use Rattle.playback.specs.Verification.{namesAgree, clientChecks, readyChecks}
+use Rattle.playback.specs.Verification.{ruleOf, clientChecks, readyChecks}
 use Rattle.playback.specs.Places.{LowestFails, FirstMissing}
 use Rattle.master.specs.{declared.Master.Master, Readers.verifyView}
 use Rattle.master.specs.States as state
@@ -14,7 +14,7 @@ pub record NamedCheck : Type 0 where
   -- on every master that calls give: with 8, 9 and 10 the slot is the lowest of which one of these does not hold
   pub client :
       (m : Master) → Given m → notEnabled ≤ verifyView m .number → verifyView m .number ≤ labelDiffers
-      → LowestFails (clientChecks namesAgree) (m .slots) (m .sequence .records) (verifyView m .slot) (verifyView m .number)
+      → LowestFails (clientChecks (ruleOf (m .sequence .edition))) (m .slots) (m .sequence .records) (verifyView m .slot) (verifyView m .number)
   -- with 11 the step is the first that is not in the pool loaded in its slot
   pub step : (m : Master) → Given m → verifyView m .number ≡ notInPool → FirstMissing (m .slots) (m .sequence) (verifyView m .slot) (verifyView m .step)
   -- with 12 the slot is the lowest of a client of the sequence that does not report ready

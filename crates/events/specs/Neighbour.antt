@@ -1,10 +1,12 @@
--- 02, request 2, "The neighbour's identical drill": that nobody loses by its rule of 9, and who gains.
+-- 02, request 2, "The neighbour's identical drill": that nobody loses by its rule of 9, and who gains. It is the rule of edition 1; what edition 2 of
+-- request 11 adds to it stands in Editions.antt.
 use Prim.Native.Nat.{ℕ, _^_, _<_}
 use mathlib.Core.Path.{_≡_}
 use mathlib.Core.Bool.{true, false, _&&_}
 use lib.Dec.{eqb}
 use Rattle.octets.specs.Numbers.{completed, nameDiffers}
 use Rattle.client.specs.{Clients.slotCount, Records.isUsed, declared.Client.Client, declared.ClientRecord.ClientRecord}
+use Rattle.sequence.specs.Editions.{firstEdition}
 use Rattle.playback.specs.Verification.{Rule, firstFailing, agreeUnder, namesAgree, checksBy}
 use Rattle.playback.specs.Promises.{SameBits, BothOwn}
 use Rattle.master.specs.{declared.Master.Master, Call.slotAt}
@@ -37,16 +39,17 @@ pub record Gains (m : Master) : Type 0 where
   pub neighbour : Neighbour (slotAt m slot) (recordAt m slot)
 
 pub record Neighbours : Type 0 where
-  -- whoever passed before passes still, and whoever got another number than 9 gets it still
-  pub nobody-loses : (m : Master) → m .state ≡ state.ready → (numberBefore m ≡ nameDiffers → ⊥) → apply m start .number ≡ numberBefore m
-  -- whoever gets another number now, and so whoever passes now and did not before, got 9, and has a client of the kind that the request names
+  -- in edition 1 whoever passed before passes still, and whoever got another number than 9 gets it still
+  pub nobody-loses :
+      (m : Master) → m .state ≡ state.ready → m .sequence .edition ≡ firstEdition → (numberBefore m ≡ nameDiffers → ⊥) → apply m start .number ≡ numberBefore m
+  -- in it whoever gets another number now, and so whoever passes now and did not before, got 9, and has a client of the kind that the request names
   pub who-gains :
-      (m : Master) → Given m → m .state ≡ state.ready → (apply m start .number ≡ numberBefore m → ⊥)
+      (m : Master) → Given m → m .state ≡ state.ready → m .sequence .edition ≡ firstEdition → (apply m start .number ≡ numberBefore m → ⊥)
       → (numberBefore m ≡ nameDiffers) × Gains m
-  -- of that kind is every client of an accepted start that 01's rule does not take
+  -- of that kind is every client of an accepted start, of either edition, that 01's rule does not take
   pub no-other :
       (m : Master) → Given m → apply m start .number ≡ completed → (slot : ℕ) → slot < slotCount → isUsed (recordAt m slot) ≡ true
       → inAllBits (slotAt m slot) (recordAt m slot) ≡ false → Neighbour (slotAt m slot) (recordAt m slot)
-  -- and every client of that kind gains; a mask has 64 bits
+  -- and in edition 1 every client of that kind gains; a mask has 64 bits
   pub each :
       (s : Client) (c : ClientRecord) → s .profile .mask < 2 ^ 64 → Neighbour s c → (inAllBits s c ≡ false) × (namesAgree s c ≡ true)

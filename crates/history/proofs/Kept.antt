@@ -16,6 +16,7 @@ use Rattle.arrays.proofs.Every.{every-weaken, every-map}
 use Rattle.client.specs.Records.{blankRecord}
 use Rattle.client.specs.declared.ClientRecord.{ClientRecord}
 use Rattle.sequence.specs.Sequence.{blankStep, stepsOf}
+use Rattle.sequence.specs.Editions.{firstEdition}
 use Rattle.sequence.specs.declared.Step.{Step}
 use Rattle.sequence.specs.declared.Sequence.{Sequence}
 use Rattle.recording.specs.Indication.{status, heldOf}
@@ -156,6 +157,7 @@ module _ (log : List Entry) (r : Recording) (old : Sequence) (s : Sound r) (h : 
       ap (λ (l : List Step). pick (eqb (length l) 0) old (sequenceOf l (r .records))) all-steps
       ∙ ap (λ (records : List ClientRecord). pick (eqb (length (recordedBy log)) 0) old (record {
         count = length (recordedBy log);
+        edition = firstEdition;
         steps = padTo blankStep 64 (recordedBy log);
         records = records;
       })) all-records

@@ -9,6 +9,7 @@ pub mod Told
 pub mod Kept
 pub mod Answers
 pub mod Next
+pub mod Editions
 pub mod Loads
 pub mod Runs
 pub mod Responses

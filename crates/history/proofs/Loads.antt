@@ -21,6 +21,7 @@ use Rattle.events.proofs.Calls.{number-is}
 use Rattle.events.proofs.Loads.{sound-loaded}
 use Rattle.history.specs.Runs.{Succeeds}
 use Rattle.history.specs.Promises.{LoadedStep, LoadedBy}
+use Rattle.history.proofs.Editions.{same-steps}
 
 module _ (s : List ℕ) (z : loadNumber s ≡ 0) where
   -- the sequence is the one that the blocks say
@@ -49,6 +50,6 @@ is-accepted before blocks d = passed _ _ _ _ _ (sym (number-is (run before) (cal
 pub loaded-steps : (events : List Event) → LoadedBy events → Every (LoadedStep events) (stepsOf (run events .sequence))
 loaded-steps events k =
     let s : List ℕ = k .blocks in
-    rw (k .sequence, steps-are s (is-accepted (k .before) s (k .accepted)))
+    rw (same-steps (run events .sequence) (loadedOf s .sequence) (k .sequence) ∙ steps-are s (is-accepted (k .before) s (k .accepted)))
     (every-step s (clientCount s) (LoadedStep events) (stepCount s)
     (λ i l. record { before = k .before; blocks = s; after = k .after; all = k .all; accepted = k .accepted; number = i; counted = l; step = refl }))

@@ -1,5 +1,5 @@
 -- What each change of the master does to the recording, its log and the sequence: most leave them, or end the recording; a tick counts, an E.4 is heard,
--- where a recording ends and is kept, its steps are those of the log, and a load replaces the sequence.
+-- where a recording ends and is kept, its steps are those of the log, a load replaces the sequence, and an edition is set in it.
 use Prim.Native.Nat.{ℕ, _≤_}
 use mathlib.Core.Path.{_≡_, refl, sym, ap, subst, _∙_}
 use mathlib.Core.Bool.{true, false, _&&_, _||_, true≢false}
@@ -17,6 +17,7 @@ use Rattle.profile.specs.declared.Profile.{Profile}
 use Rattle.client.specs.Clients.{isTaken}
 use Rattle.client.specs.Records.{recordOf}
 use Rattle.sequence.specs.Sequence.{stepsOf}
+use Rattle.sequence.specs.Editions.{withEdition}
 use Rattle.sequence.specs.declared.Sequence.{Sequence}
 use Rattle.store.specs.Loaded.{loadedOf}
 use Rattle.recording.specs.State.{blankRecording}
@@ -33,10 +34,10 @@ use Rattle.master.specs.States as state
 use Rattle.master.specs.States.{isRecording, isPlaying, withState, withSequence, withRecording, withPlayback, ended}
 use Rattle.master.specs.Recording.{recordingEnded, indicationCall}
 use Rattle.master.proofs.Calls.{passed, below}
-use Rattle.events.specs.Events.{Event, indication, load, Sort, stops, hears, ticks, answers, loads, other, sortOf, numberBy, callOf, apply, run}
+use Rattle.events.specs.Events.{Event, indication, load, edition, Sort, stops, hears, ticks, answers, loads, other, sortOf, numberBy, callOf, apply, run}
 use Rattle.events.proofs.Calls.{number-is, either-way}
 use Rattle.events.proofs.Choices.{either}
-use Rattle.events.proofs.Changes.{Rests, low, heardIn, Replaces, loaded, Change, rested, moved, dropped, broken, recordStarts, recordWaits, recordEnds, recordHears, recordHearsLast, recordTicks, playStarts, playTicks, playTicksLast, playHears, playHearsLast, replaced, not-recording}
+use Rattle.events.proofs.Changes.{Rests, low, heardIn, Replaces, loaded, inEdition, Change, rested, moved, dropped, broken, recordStarts, recordWaits, recordEnds, recordHears, recordHearsLast, recordTicks, playStarts, playTicks, playTicksLast, playHears, playHearsLast, replaced, not-recording}
 use Rattle.events.proofs.Invariant.{done-change}
 use Rattle.events.proofs.Regular.{given-regular}
 use Rattle.history.specs.Runs.{isDone}
@@ -63,12 +64,14 @@ pub record Good (m : Master) (log : List Entry) : Type 0 where
 abbrev Ends : Master → Event → Master → Type 0
 Ends m e n = (isRecording m ≡ true) × (doesKeep e ≡ true) × (n .state ≡ state.ready)
 
--- the sequence is the old one; or a recording ends and is kept, and its steps are those of the log: the old ones, or each is traced; or a load brings it
+-- the sequence is the old one; or a recording ends and is kept, and its steps are those of the log: the old ones, or each is traced; or a load brings it;
+-- or an edition is set in it
 pub data SequenceAfter (m : Master) (e : Event) (log : List Entry) (n : Master) : Type 0 where
   stillSame : n .sequence ≡ m .sequence → (Ends m e n → ⊥) → SequenceAfter m e log n
   nowKept : Ends m e n → n .sequence ≡ keptFrom log (m .sequence)
       → (n .sequence ≡ m .sequence) ⊎ Every (Traced log) (stepsOf (n .sequence)) → SequenceAfter m e log n
   nowLoaded : (blocks : List ℕ) → e ≡ load blocks → apply m e .number ≡ 0 → n .sequence ≡ loadedOf blocks .sequence → SequenceAfter m e log n
+  nowSet : (k : ℕ) → e ≡ edition k → apply m e .number ≡ 0 → n .sequence ≡ withEdition (m .sequence) k → SequenceAfter m e log n
 
 -- the log where the recording goes on
 abbrev now : Master → List Entry → List Entry
@@ -234,6 +237,7 @@ module _ (before : List Event) (log : List Entry) (g : Good (run before) log) wh
       (e : Event) (q : Sequence) (new : List Entry) → apply here e .number ≡ 0 → Replaces here e q
       → SequenceAfter here e (log ++ new) (withSequence here q)
   replaced-by e q new w (loaded blocks z) = nowLoaded blocks refl w refl
+  replaced-by e q new w (inEdition k l z) = nowSet k refl w refl
 
   changed : (e : Event) (n : Master) → apply here e .number ≡ 0 → Change here e n → Next here e log (brings e) n
   changed e n w (rested x y) =

@@ -1,4 +1,4 @@
--- Over every run: the log is of its calls, and the steps and the sequence are those of the log, or of a load.
+-- Over every run: the log is of its calls, and the steps and the sequence are those of the log, or of a load, in any edition.
 use Prim.Native.Nat.{ℕ}
 use mathlib.Core.Path.{_≡_, refl, sym, ap, subst, _∙_}
 use mathlib.Core.Bool.{Bool, true, false, _&&_, true≢false}
@@ -9,8 +9,8 @@ use borrow.Author.Tests.{eq-eqb, eqb-true}
 use Rattle.arrays.specs.Every.{Every}
 use Rattle.arrays.proofs.Every.{every-weaken}
 use Rattle.sequence.specs.Sequence.{stepsOf, blankSequence}
+use Rattle.sequence.specs.Editions.{withEdition}
 use Rattle.recording.proofs.Steps.{both}
-use Rattle.sequence.specs.declared.Sequence as sequence
 use Rattle.sequence.specs.declared.Step.{Step}
 use Rattle.store.specs.Loaded.{loadedOf}
 use Rattle.message.specs.declared.Status.the-variants.{AtOnce, Started}
@@ -18,8 +18,8 @@ use Rattle.recording.specs.Indication.{status}
 use Rattle.master.specs.declared.Master.{Master}
 use Rattle.master.specs.States as state
 use Rattle.master.specs.States.{newMaster, isRecording}
-use Rattle.master.specs.Storing.{loadCall}
-use Rattle.events.specs.Events.{Event, indication, load, Sort, stops, hears, ticks, answers, loads, other, sortOf, callOf, apply, run}
+use Rattle.master.specs.{Storing.loadCall, Editions.editionCall}
+use Rattle.events.specs.Events.{Event, indication, load, edition, Sort, stops, hears, ticks, answers, loads, other, sortOf, callOf, apply, run}
 use Rattle.events.proofs.Calls.{after-is}
 use Rattle.events.proofs.Choices.{chosen-by}
 use Rattle.history.specs.Runs.{Succeeds}
@@ -30,7 +30,8 @@ use Rattle.history.proofs.Gather.{run-more, gather-more, along}
 use Rattle.history.proofs.Lists.{all-true, every-chosen, every-append}
 use Rattle.history.proofs.Held.{done-is}
 use Rattle.history.proofs.Told.{told-blank}
-use Rattle.history.proofs.Next.{Good, SequenceAfter, stillSame, nowKept, nowLoaded, Next, apply-next}
+use Rattle.history.proofs.Next.{Good, SequenceAfter, stillSame, nowKept, nowLoaded, nowSet, Next, apply-next}
+use Rattle.history.proofs.Editions.{SameButEdition, in-edition, through, same-steps}
 use Rattle.history.proofs.Loads.{loaded-steps}
 
 log-more : (events : List Event) (e : Event) → logOf (events ++ e ∷ []) ≡ logAfter events e (logOf events)
@@ -109,7 +110,10 @@ module _ (events : List Event) (e : Event) where
   more : run all ≡ apply (run events) e .master
   more = run-more events e
 
-  kept-still : run all .sequence ≡ run events .sequence → KeptBy events → KeptBy all
+  more-sequence : run all .sequence ≡ apply (run events) e .master .sequence
+  more-sequence = ap (λ (m : Master). m .sequence) more
+
+  kept-still : SameButEdition (run all .sequence) (run events .sequence) → KeptBy events → KeptBy all
   kept-still c k = record {
     before = k .before;
     last = k .last;
@@ -118,36 +122,41 @@ module _ (events : List Event) (e : Event) where
     recording = k .recording;
     keeps = k .keeps;
     ended = k .ended;
-    sequence = c ∙ k .sequence;
-    steps = subst (λ (q : sequence.Sequence). Every (Traced (logWith (k .before) (k .last))) (stepsOf q)) (sym c) (k .steps);
+    sequence = through (run all .sequence) (run events .sequence) (run (k .before ++ k .last ∷ []) .sequence) c (k .sequence);
+    steps = subst (Every (Traced (logWith (k .before) (k .last)))) (sym (same-steps (run all .sequence) (run events .sequence) c)) (k .steps);
   }
 
-  loaded-still : run all .sequence ≡ run events .sequence → LoadedBy events → LoadedBy all
+  loaded-still : SameButEdition (run all .sequence) (run events .sequence) → LoadedBy events → LoadedBy all
   loaded-still c k = record {
     before = k .before;
     blocks = k .blocks;
     after = k .after ++ e ∷ [];
     all = ap (λ (l : List Event). l ++ e ∷ []) (k .all) ∙ append-assoc (k .before) (load (k .blocks) ∷ k .after) (e ∷ []);
     accepted = k .accepted;
-    sequence = c ∙ k .sequence;
+    sequence = through (run all .sequence) (run events .sequence) (loadedOf (k .blocks) .sequence) c (k .sequence);
   }
 
-  still : Origin events → apply (run events) e .master .sequence ≡ run events .sequence → Origin all
-  still (inl z) c = inl (ap (λ (m : Master). stepsOf (m .sequence)) more ∙ ap stepsOf c ∙ z)
-  still (inr (inl k)) c = inr (inl (kept-still (ap (λ (m : Master). m .sequence) more ∙ c) k))
-  still (inr (inr k)) c = inr (inr (loaded-still (ap (λ (m : Master). m .sequence) more ∙ c) k))
+  still : Origin events → SameButEdition (run all .sequence) (run events .sequence) → Origin all
+  still (inl z) c = inl (same-steps (run all .sequence) (run events .sequence) c ∙ z)
+  still (inr (inl k)) c = inr (inl (kept-still c k))
+  still (inr (inr k)) c = inr (inr (loaded-still c k))
+
+  -- it is the old one, in an edition
+  old : (n : ℕ) → apply (run events) e .master .sequence ≡ withEdition (run events .sequence) n → Origin events → Origin all
+  old n c k = still k (in-edition (run all .sequence) (run events .sequence) n (more-sequence ∙ c))
 
   kept-more : Origin events → SequenceAfter (run events) e (logWith events e) (apply (run events) e .master) → Origin all
-  kept-more k (stillSame c f) = still k c
+  kept-more k (stillSame c f) = old (run events .sequence .edition) c k
   kept-more k (nowLoaded blocks q d c) = inr (inr (record {
     before = events;
     blocks = blocks;
     after = [];
     all = ap (λ (x : Event). events ++ x ∷ []) q;
     accepted = subst (Succeeds events) q d;
-    sequence = ap (λ (m : Master). m .sequence) more ∙ c;
+    sequence = in-edition (run all .sequence) (loadedOf blocks .sequence) (loadedOf blocks .sequence .edition) (more-sequence ∙ c);
   }))
-  kept-more k (nowKept z x (inl c)) = still k c
+  kept-more k (nowSet n q d c) = old n c k
+  kept-more k (nowKept z x (inl c)) = old (run events .sequence .edition) c k
   kept-more k (nowKept (i, y, r) x (inr t)) = inr (inl (record {
     before = events;
     last = e;
@@ -259,8 +268,7 @@ recorded events = go (traces events .kept)
 pub exact :
     (before : List Event) (last : Event) → isRecording (run before) ≡ true → doesKeep last ≡ true → run (before ++ last ∷ []) .state ≡ state.ready
     → run (before ++ last ∷ []) .sequence ≡ keptFrom (logWith before last) (run before .sequence)
-exact before last i k z =
-    ap (λ (m : Master). m .sequence) (more before last) ∙ go (sequence-after before last)
+exact before last i k z = more-sequence before last ∙ go (sequence-after before last)
   where
     go :
         SequenceAfter (run before) last (logWith before last) (apply (run before) last .master)
@@ -268,19 +276,24 @@ exact before last i k z =
     go (stillSame c f) = absurd (f (i, k, ap (λ (m : Master). m .state) (sym (more before last)) ∙ z))
     go (nowKept y x t) = x
     go (nowLoaded blocks q d c) = absurd (true≢false (sym k ∙ ap doesKeep q))
+    go (nowSet n q d c) = absurd (true≢false (sym k ∙ ap doesKeep q))
 
 pub loaded : (before : List Event) (blocks : List ℕ) → Succeeds before (load blocks) → run (before ++ load blocks ∷ []) .sequence ≡ loadedOf blocks .sequence
 unfolding loadCall
 loaded before blocks d =
     ap (λ (m : Master). m .sequence) (more before (load blocks) ∙ after-is (run before) (callOf (run before) (load blocks)) d)
 
+pub set : (before : List Event) (n : ℕ) → Succeeds before (edition n) → run (before ++ edition n ∷ []) .sequence ≡ withEdition (run before .sequence) n
+unfolding editionCall
+set before n d =
+    ap (λ (m : Master). m .sequence) (more before (edition n) ∙ after-is (run before) (callOf (run before) (edition n)) d)
+
 pub others :
     (before : List Event) (last : Event)
     → (isRecording (run before) && doesKeep last && eqb (run (before ++ last ∷ []) .state) state.ready) ≡ false
-    → ((blocks : List ℕ) → last ≡ load blocks → Succeeds before last → ⊥)
+    → ((blocks : List ℕ) → last ≡ load blocks → Succeeds before last → ⊥) → ((n : ℕ) → last ≡ edition n → Succeeds before last → ⊥)
     → run (before ++ last ∷ []) .sequence ≡ run before .sequence
-others before last n l =
-    ap (λ (m : Master). m .sequence) (more before last) ∙ go (sequence-after before last)
+others before last n l s = more-sequence before last ∙ go (sequence-after before last)
   where
     go :
         SequenceAfter (run before) last (logWith before last) (apply (run before) last .master)
@@ -290,3 +303,4 @@ others before last n l =
         let z = eq-eqb _ 1 (ap (λ (m : Master). m .state) (more before last) ∙ r) in
         absurd (true≢false (sym (all-true _ _ (all-true _ _ i y) z) ∙ n))
     go (nowLoaded blocks q d c) = absurd (l blocks q d)
+    go (nowSet k q d c) = absurd (s k q d)

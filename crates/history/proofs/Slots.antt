@@ -25,9 +25,9 @@ use Rattle.master.specs.Clients.{unfit, followed, reportedSlot, isReport, noRep
 use Rattle.master.specs.Recording.{recordingEnded, stopped, recorded, interrupted, heard, Hearing, recordCall, stopCall, cancelCall, indicationCall}
 use Rattle.master.specs.Playback.{replied, startCall, abortCall, clientAbortCall, answerCall}
 use Rattle.master.specs.Tick.{recordingTicked, playbackTicked, ticked, tickCall}
-use Rattle.master.specs.Storing.{storeCall, loadCall}
+use Rattle.master.specs.{Storing.storeCall, Storing.loadCall, Editions.editionCall}
 use Rattle.master.proofs.Calls.{passed, below}
-use Rattle.events.specs.Events.{Event, on, off, «record», stop, cancel, start, abort, attach, enable, disable, report, lost, indication, clientAbort, tick, answer, store, load, callOf, apply, run}
+use Rattle.events.specs.Events.{Event, on, off, «record», stop, cancel, start, abort, attach, enable, disable, report, lost, indication, clientAbort, tick, answer, store, load, edition, callOf, apply, run}
 use Rattle.events.proofs.Calls.{number-is, either-way}
 use Rattle.events.proofs.Choices.{chosen, chosen-by, either}
 use Rattle.history.specs.Runs.{isDone}
@@ -149,7 +149,7 @@ module _ (c : ℕ → Seat) (m : Master) (h : All c m) where
   stops = chosen (All c) _ _ _ (same c m h _ refl) (kept-over c m h)
 
   all-after : (e : Event) → numberOf (callOf m e) ≡ 0 → All (λ slot. seatBy slot (c slot) e) (callOf m e .after)
-  unfolding onCall offCall attachCall wantCall reportCall lostCall recordCall stopCall cancelCall indicationCall startCall abortCall clientAbortCall answerCall tickCall storeCall loadCall replied reported clients.lost
+  unfolding onCall offCall attachCall wantCall reportCall lostCall recordCall stopCall cancelCall indicationCall startCall abortCall clientAbortCall answerCall tickCall storeCall loadCall editionCall replied reported clients.lost
   all-after on z = same c m h _ refl
   all-after off z = same c m h _ refl
   all-after «record» z = same c m h _ refl
@@ -176,6 +176,7 @@ module _ (c : ℕ → Seat) (m : Master) (h : All c m) where
   all-after (answer i msg out) z = chosen (All c) _ _ _ (over c m h _) (chosen (All c) _ _ _ (over c m h _) (same c m h _ refl))
   all-after (store out) z = h
   all-after (load blocks) z = same c m h _ refl
+  all-after (edition n) z = same c m h _ refl
 
 -- ---- over every run
 

@@ -16,10 +16,12 @@ use Rattle.client.specs.Clients.{isTaken}
 use Rattle.client.specs.Records.{isUsed, blankRecord, recordOf}
 use Rattle.client.specs.declared.ClientRecord.{ClientRecord}
 use Rattle.sequence.specs.Sequence.{byDistance, blankSequence, stepsOf}
+use Rattle.sequence.specs.Editions.{withEdition}
 use Rattle.sequence.specs.declared.Step.{Step}
 use Rattle.sequence.specs.declared.Sequence.{Sequence}
 use Rattle.recording.proofs.Sound.{unused}
 use Rattle.store.specs.Fields.{mostTicks, mostDistance, mostMark, stepRight}
+use Rattle.store.specs.Loaded.{loadedOf}
 use Rattle.store.specs.Legal.{RightRecord, Legal}
 use Rattle.store.proofs.Pools.{right-record}
 use Rattle.master.specs.declared.Master.{Master}
@@ -42,7 +44,8 @@ use Rattle.history.proofs.Ticks.{counting}
 use Rattle.history.proofs.Slots.{holds}
 use Rattle.history.proofs.Gather.{run-more, along}
 use Rattle.history.proofs.Lists.{every-append}
-use Rattle.history.proofs.Next.{SequenceAfter, stillSame, nowKept, nowLoaded}
+use Rattle.history.proofs.Next.{SequenceAfter, stillSame, nowKept, nowLoaded, nowSet}
+use Rattle.history.proofs.Editions.{same-steps}
 use Rattle.history.proofs.Loads.{is-accepted}
 use Rattle.history.proofs.Runs.{happened, happened-last, kept-steps, sequence-after, traces}
 use Rattle.history.proofs.Responses.{few-states}
@@ -161,6 +164,10 @@ kept-right log old h k =
     chosen-by RightIn (eqb (length (recordedBy log)) 0) old _ (λ _. k)
     (λ _ slot l. every-at Right (map (recordFor log) slots) slot blankRecord l (records-right log h slots))
 
+set-right : (old : Sequence) (n : ℕ) → RightIn old → RightIn (withEdition old n)
+unfolding RightIn
+set-right old n k = k
+
 right-more : (events : List Event) (e : Event) → RightIn (run events .sequence) → RightIn (run (events ++ e ∷ []) .sequence)
 right-more events e k = subst (λ (m : Master). RightIn (m .sequence)) (sym (run-more events e)) (go (sequence-after events e))
   where
@@ -170,6 +177,7 @@ right-more events e k = subst (λ (m : Master). RightIn (m .sequence)) (sym (run
     go (nowLoaded blocks q z x) =
         subst RightIn (sym x)
         (legal-right _ (legal-loaded blocks (is-accepted events blocks (subst (λ (y : Event). apply (run events) y .number ≡ 0) q z))))
+    go (nowSet n q z x) = subst RightIn (sym x) (set-right (run events .sequence) n k)
 
 right-records : (events : List Event) → RightIn (run events .sequence)
 unfolding newMaster
@@ -183,7 +191,9 @@ right-steps events = go (traces events .kept)
     go : Origin events → Every (λ s. stepRight s ≡ true) (stepsOf (run events .sequence))
     go (inl z) = rw z tt
     go (inr (inl k)) = every-weaken (recorded-right events) (stepsOf (run events .sequence)) (kept-steps events k)
-    go (inr (inr k)) = rw (k .sequence) (legal-loaded (k .blocks) (is-accepted (k .before) (k .blocks) (k .accepted)) .steps)
+    go (inr (inr k)) =
+        rw (same-steps (run events .sequence) (loadedOf (k .blocks) .sequence) (k .sequence))
+        (legal-loaded (k .blocks) (is-accepted (k .before) (k .blocks) (k .accepted)) .steps)
 
 -- so the sequence of every master that calls give, if it has a step, is one that blocks may say
 pub legal : (m : Master) → Given m → 1 ≤ m .sequence .count → Legal (m .sequence)

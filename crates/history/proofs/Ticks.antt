@@ -21,7 +21,7 @@ use Rattle.master.specs.States.{newMaster, isRecording, isPlaying, withRecordin
 use Rattle.master.specs.Recording.{recordCall, recordingEnded}
 use Rattle.master.specs.Tick.{recordingTicked, playbackTicked, ticked, tickCall}
 use Rattle.master.proofs.Calls.{passed}
-use Rattle.events.specs.Events.{Event, on, off, «record», stop, cancel, start, abort, attach, enable, disable, report, lost, indication, clientAbort, tick, answer, store, load, Sort, stops, hears, ticks, answers, loads, other, sortOf, numberBy, whichCall, callOf, apply, run}
+use Rattle.events.specs.Events.{Event, on, off, «record», stop, cancel, start, abort, attach, enable, disable, report, lost, indication, clientAbort, tick, answer, store, load, edition, Sort, stops, hears, ticks, answers, loads, other, sortOf, numberBy, whichCall, callOf, apply, run}
 use Rattle.events.proofs.Calls.{number-is, after-is, either-way}
 use Rattle.events.proofs.Choices.{chosen, chosen-by, either}
 use Rattle.events.proofs.Changes.{low, Change, rested, moved, dropped, broken, recordStarts, recordWaits, recordEnds, recordHears, recordHearsLast, recordTicks, playStarts, playTicks, playTicksLast, playHears, playHearsLast, replaced, not-recording}
@@ -150,6 +150,7 @@ is-record (tick mm out) z = absurd (true≢false (sym z))
 is-record (answer slot msg out) z = absurd (true≢false (sym z))
 is-record (store out) z = absurd (true≢false (sym z))
 is-record (load blocks) z = absurd (true≢false (sym z))
+is-record (edition n) z = absurd (true≢false (sym z))
 
 -- what is counted is these ticks
 Counted : Master → List ℕ → Type 0

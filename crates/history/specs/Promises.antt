@@ -1,4 +1,4 @@
--- Recording and loading over every run of calls, from the master as it is made: calls in, numbers, bytes, states and the sequence out.
+-- Recording, loading and editions over every run of calls, from the master as it is made: calls in, numbers, bytes, states and the sequence out.
 use Prim.Native.Nat.{ℕ, _<_}
 use mathlib.Core.Path.{_≡_}
 use mathlib.Core.Bool.{Bool, true, false, not, _&&_}
@@ -11,7 +11,7 @@ use Rattle.pool.specs.Pool.{verdictOf}
 use Rattle.arrays.specs.Every.{Every}
 use Rattle.client.specs.Clients.{isTaken, isWanted}
 use Rattle.message.specs.declared.Status.the-variants.{AtOnce, Started, Done}
-use Rattle.sequence.specs.{Sequence.stepsOf, declared.Step.Step}
+use Rattle.sequence.specs.{Sequence.stepsOf, Editions.withEdition, declared.Step.Step}
 use Rattle.recording.specs.Indication.{hasOpen}
 use Rattle.sequence.specs.Sound.{SoundSequence}
 use Rattle.store.specs.Blocks.{stepPlace}
@@ -20,7 +20,7 @@ use Rattle.recording.specs.Promises.{Sound}
 use Rattle.playback.specs.Promises.{Tidy}
 use Rattle.master.specs.{declared.Master.Master, Call.slotAt, Messages.executionIn, States.isRecording}
 use Rattle.master.specs.States as state
-use Rattle.events.specs.Events.{Event, stop, indication, tick, load, Sort, stops, hears, ticks, answers, loads, other, sortOf, lentAfter, run, Given}
+use Rattle.events.specs.Events.{Event, stop, indication, tick, load, edition, Sort, stops, hears, ticks, answers, loads, other, sortOf, lentAfter, run, Given}
 use Rattle.history.specs.Runs.{Succeeds}
 use Rattle.history.specs.Ticks.{ticksSince, sum}
 use Rattle.history.specs.Seats.{seatOf, poolIn}
@@ -165,7 +165,7 @@ abbrev pub doesKeep : Event → Bool
 doesKeep e = doesKeepBy e (sortOf e)
 
 -- the run up to the call that ended the recording, that call, which may be its last indication, and the calls after it: at their end the sequence is
--- the one that it kept
+-- the one that it kept, in the edition that it has then
 pub record KeptBy (events : List Event) : Type 0 where
   pub before : List Event
   pub last : Event
@@ -174,17 +174,17 @@ pub record KeptBy (events : List Event) : Type 0 where
   pub recording : isRecording (run before) ≡ true
   pub keeps : doesKeep last ≡ true
   pub ended : run (before ++ last ∷ []) .state ≡ state.ready
-  pub sequence : run events .sequence ≡ run (before ++ last ∷ []) .sequence
+  pub sequence : run events .sequence ≡ withEdition (run (before ++ last ∷ []) .sequence) (run events .sequence .edition)
   pub steps : Every (Traced (logWith before last)) (stepsOf (run events .sequence))
 
--- the run up to a load that was not refused, its blocks, and the calls after it: at their end the sequence is this one
+-- the run up to a load that was not refused, its blocks, and the calls after it: at their end the sequence is this one, in the edition that it has then
 pub record LoadedBy (events : List Event) : Type 0 where
   pub before : List Event
   pub blocks : List ℕ
   pub after : List Event
   pub all : events ≡ before ++ load blocks ∷ after
   pub accepted : Succeeds before (load blocks)
-  pub sequence : run events .sequence ≡ loadedOf blocks .sequence
+  pub sequence : run events .sequence ≡ withEdition (loadedOf blocks .sequence) (run events .sequence .edition)
 
 -- a sequence has no step, or one recording kept it, or one load brought it
 abbrev pub Origin : List Event → Type 0
@@ -207,11 +207,13 @@ pub record Promises : Type 0 where
       → run (before ++ last ∷ []) .sequence ≡ keptFrom (logWith before last) (run before .sequence)
   -- where a load is not refused, the sequence is what its blocks say
   pub loaded : (before : List Event) (blocks : List ℕ) → Succeeds before (load blocks) → run (before ++ load blocks ∷ []) .sequence ≡ loadedOf blocks .sequence
+  -- where an edition is set, the sequence is the same in this edition
+  pub set : (before : List Event) (n : ℕ) → Succeeds before (edition n) → run (before ++ edition n ∷ []) .sequence ≡ withEdition (run before .sequence) n
   -- and no other call changes the sequence
   pub others :
       (before : List Event) (last : Event)
       → (isRecording (run before) && doesKeep last && eqb (run (before ++ last ∷ []) .state) state.ready) ≡ false
-      → ((blocks : List ℕ) → last ≡ load blocks → Succeeds before last → ⊥)
+      → ((blocks : List ℕ) → last ≡ load blocks → Succeeds before last → ⊥) → ((n : ℕ) → last ≡ edition n → Succeeds before last → ⊥)
       → run (before ++ last ∷ []) .sequence ≡ run before .sequence
   -- 02, request 1: what is stored is loaded again, and a change inside one word is found
   pub stored : Stored

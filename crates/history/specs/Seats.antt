@@ -6,7 +6,7 @@ use lib.Dec.{eqb}
 use Rattle.octets.specs.Pick.{pick}
 use Rattle.profile.specs.{Profile.keptOfPool, declared.Profile.Profile}
 use Rattle.client.specs.declared.ClientRecord.{ClientRecord}
-use Rattle.events.specs.Events.{Event, on, off, «record», stop, cancel, start, abort, attach, enable, disable, report, lost, indication, clientAbort, tick, answer, store, load}
+use Rattle.events.specs.Events.{Event, on, off, «record», stop, cancel, start, abort, attach, enable, disable, report, lost, indication, clientAbort, tick, answer, store, load, edition}
 use Rattle.history.specs.Runs.{gather, isDone}
 
 -- whether a client is there, whether it is wanted, its last report (0 disabled), its NAME and its pool
@@ -53,6 +53,7 @@ seatBy slot s (tick mm out) = s
 seatBy slot s (answer i msg out) = s
 seatBy slot s (store out) = s
 seatBy slot s (load blocks) = s
+seatBy slot s (edition n) = s
 
 abbrev pub seatAfter : ℕ → List Event → Event → Seat → Seat
 seatAfter slot before e s = pick (isDone before e) (seatBy slot s e) s

@@ -139,12 +139,13 @@ clientOf (b ∷ others) = b .client
 abbrev pub recordFor : List Entry → ℕ → ClientRecord
 recordFor log slot = pick (some (isStepFrom slot) (recordedBy log)) (clientOf (those (isFrom slot) (beginnings [] log))) blankRecord
 
--- "A recording that keeps no step also keeps the old one."; the cells after the steps are blank
+-- "A recording that keeps no step also keeps the old one."; the cells after the steps are blank. A recording gives edition 1
 abbrev pub keptFrom : List Entry → Sequence → Sequence
 keptFrom log old =
     pick (eqb (length (recordedBy log)) 0) old
     (record {
       count = length (recordedBy log);
+      edition = 1;
       steps = padTo blankStep 64 (recordedBy log);
       records = map (recordFor log) (0 ∷ 1 ∷ 2 ∷ 3 ∷ 4 ∷ 5 ∷ 6 ∷ 7 ∷ []);
     })

@@ -1,4 +1,4 @@
-// Recording and loading over every run of calls: nothing is done, the contracts say it.
+// Recording, loading and editions over every run of calls: nothing is done, the contracts say it.
 ghost use Rattle.history.specs.Promises.{Counting, Attaching, Answering, Opening, Promises};
 
 // What is counted is the ticks since the recording began.

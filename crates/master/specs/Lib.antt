@@ -7,3 +7,4 @@ pub mod Playback
 pub mod Tick
 pub mod Readers
 pub mod Storing
+pub mod Editions

@@ -18,6 +18,7 @@ use sequence::Sequence;
 use sequence::blank_sequence;
 
 pub mod clients;
+pub mod editions;
 pub mod messages;
 pub mod playing;
 pub mod readers;

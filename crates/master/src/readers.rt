@@ -1,6 +1,7 @@
 // What a terminal reads of the master for its screen and for the status message. A reader is handed the part of the master that it reads; one that
 // reads the slots, the whole.
 ghost use mathlib.Core.Path.{_≡_};
+ghost use Rattle.sequence.specs.Editions.{editionOf};
 ghost use Rattle.master.specs.Readers.{stateOf, slotView, stepView, clientView, verifyView, progressOf, takenView, sentView};
 use crate::ABORT;
 use crate::Master;
@@ -72,6 +73,16 @@ pub fn state_of(state: u8) -> u8
     ensures { λ r. ⌜ r ≡ stateOf state ⌝ }
 {
     if state < ABORT { state } else { ABORT }
+}
+
+// The edition of the sequence, 0 where there is none.
+pub fn edition_of(sequence: Sequence) -> u32
+    ensures { λ r. ⌜ r ≡ editionOf sequence ⌝ }
+{
+    if sequence.len() == 0 {
+        return 0;
+    }
+    sequence.edition
 }
 
 // Step i of the sequence, counted from 0.

@@ -71,6 +71,6 @@ abbrev pub checkWrong : ℕ
 checkWrong = 16
 
 -- 02, request 1: "17 counts or fields out of range (..), fill not zero, a slot twice, blocks missing or left over, a step without its client's record or a
--- record without a step"
+-- record without a step"; request 11: "an unknown edition gives 17"
 abbrev pub notStored : ℕ
 notStored = 17

@@ -1,20 +1,20 @@
--- What it means that two NAMEs agree under a mask, and that two labels agree.
-use Prim.Native.Nat.{ℕ, zero, suc, _+_, _*_, _/_, _%_, _^_, _<_, min}
-use mathlib.Core.Path.{_≡_, refl, sym, _∙_}
-use mathlib.Core.Bool.{Bool, true, false, _&&_, true≢false}
+-- What it means that two NAMEs agree under a mask and in an edition, and that two labels agree.
+use Prim.Native.Nat.{ℕ, zero, suc, _+_, _*_, _-_, _/_, _%_, _^_, _<_, min}
+use mathlib.Core.Path.{_≡_, refl, sym, ap, _∙_}
+use mathlib.Core.Bool.{Bool, true, false, not, _&&_, _||_, true≢false}
 use mathlib.Core.List.{List, [], _∷_}
 use native.Mathlib.Omega.{arith}
-use native.Mathlib.Nat.{pow-suc, div-one}
+use native.Mathlib.Nat.{pow-suc, div-one, mod-lt}
 use borrow.Author.Tests.{eqb-true, eqb-false, eq-eqb}
-use lib.Bits.{bitAnd, and-step, and-shr, and-le-r}
+use lib.Bits.{bitAnd, and-step, and-shr, and-le-r, and-mask}
 use lib.Dec.{eqb}
-use lib.Pow.{shr-shr}
+use lib.Pow.{pow-pos, shr-shr, field, mod-mod-pow}
 use Rattle.octets.specs.Bits.{hasBit}
 use Rattle.octets.specs.declared.label.Label.{Label}
 use Rattle.octets.proofs.Tests.{pick-true, pick-false}
 use Rattle.client.specs.declared.Client.{Client}
 use Rattle.client.specs.declared.ClientRecord.{ClientRecord}
-use Rattle.playback.specs.Verification.{agreeUnder, bothOwn, mastersAgree, namesAgree, sameBytes, sameLabel}
+use Rattle.playback.specs.Verification.{agreeUnder, bothOwn, mastersAgree, namesAgree, identitiesAgree, ruleOf, sameBytes, sameLabel}
 use Rattle.playback.specs.Promises.{SameBits, BothOwn, SameNames, Agrees}
 
 -- ---- bits
@@ -72,40 +72,90 @@ pub both : (a b : Bool) → (a && b) ≡ true → (a ≡ true) × (b ≡ true)
 both true b e = (refl, e)
 both false b e = absurd (true≢false (sym e))
 
+-- ---- the rule of an edition, by its parts
+
+-- digit k of the lowest n bits
+low-digit : (a n k : ℕ) → k < n → a % 2 ^ n / 2 ^ k % 2 ≡ a / 2 ^ k % 2
+low-digit a n k h =
+    let e : n ≡ n - k - 1 + 1 + k = omega arith in
+    ap (λ (m : ℕ). a % 2 ^ m / 2 ^ k % 2) e ∙ ap (λ (m : ℕ). m % 2) (field a (n - k - 1 + 1) k) ∙ mod-mod-pow (a / 2 ^ k) (n - k - 1) 1
+
+-- the lowest bits as a number, and bit by bit
+low-bits : (n a b : ℕ) → a % 2 ^ n ≡ b % 2 ^ n → (k : ℕ) → k < n → hasBit a k ≡ hasBit b k
+unfolding hasBit
+low-bits n a b e k h = rw (← low-digit a n k h, e, low-digit b n k h)
+
+low-only : (n a b : ℕ) → ((k : ℕ) → k < n → hasBit a k ≡ hasBit b k) → a % 2 ^ n ≡ b % 2 ^ n
+unfolding hasBit
+low-only n a b e =
+    digits n (a % 2 ^ n) (b % 2 ^ n) (mod-lt a (pow-pos n)) (mod-lt b (pow-pos n))
+    (λ k h. low-digit a n k h ∙ same-digit (a / 2 ^ k % 2) (b / 2 ^ k % 2) (omega arith) (omega arith) (e k h) ∙ sym (low-digit b n k h))
+
+pub rule-first : (s : Client) (c : ClientRecord) → ruleOf 1 s c ≡ namesAgree s c
+unfolding ruleOf
+rule-first s c = refl
+
+-- "the lowest 21 bits of the client's NAME, its identity number", as a number
+abbrev pub SameIdentity : Client → ClientRecord → Type 0
+SameIdentity s c = s .name % 2 ^ 21 ≡ c .name % 2 ^ 21
+
+module _ (edition : ℕ) (s : Client) (c : ClientRecord) where
+  pub rule-parts : ruleOf edition s c ≡ true → (namesAgree s c ≡ true) × (edition ≡ 2 → SameIdentity s c)
+  unfolding ruleOf
+  rule-parts e =
+      let p = both (not (eqb edition 2) || identitiesAgree s c) _ e in
+      (p .1, λ z. sym (and-mask (s .name) 21) ∙ eqb-true _ _ (rw (eq-eqb edition 2 z) at (p .0)) ∙ and-mask (c .name) 21)
+
+  pub rule-whole : namesAgree s c ≡ true → (edition ≡ 2 → SameIdentity s c) → ruleOf edition s c ≡ true
+  unfolding ruleOf
+  rule-whole n i = go (eqb edition 2) refl
+    where
+      go : (b : Bool) → eqb edition 2 ≡ b → ((not b || identitiesAgree s c) && namesAgree s c) ≡ true
+      go true e = rw (eq-eqb _ _ (and-mask (s .name) 21 ∙ i (eqb-true edition 2 e) ∙ sym (and-mask (c .name) 21))) n
+      go false e = n
+
+  -- what an edition takes the first takes
+  pub rule-takes : ruleOf edition s c ≡ true → ruleOf 1 s c ≡ true
+  rule-takes e = rule-first s c ∙ rule-parts e .0
+
 -- ---- NAMEs
 
 module _ (s : Client) (c : ClientRecord) where
+  pub is-own : bothOwn s c ≡ true → BothOwn s c
+  is-own e = let p = both (eqb (c .master) (c .name)) _ e in (eqb-true _ _ (p .0), eqb-true _ _ (p .1))
+
+  own-is : BothOwn s c → bothOwn s c ≡ true
+  own-is o = rw (eq-eqb _ _ (o .0), eq-eqb _ _ (o .1))
+
+module _ (edition : ℕ) (s : Client) (c : ClientRecord) where
   abbrev mask : ℕ
   mask = s .profile .mask
 
   abbrev own : Bool
   own = bothOwn s c
 
-  pub is-own : own ≡ true → BothOwn s c
-  is-own e = let p = both (eqb (c .master) (c .name)) _ e in (eqb-true _ _ (p .0), eqb-true _ _ (p .1))
-
-  own-is : BothOwn s c → own ≡ true
-  own-is o = rw (eq-eqb _ _ (o .0), eq-eqb _ _ (o .1))
-
-  names : namesAgree s c ≡ true → SameNames s c
+  names : ruleOf edition s c ≡ true → SameNames edition s c
   names e =
-      let p = both (agreeUnder mask (s .name) (c .name)) _ e in
+      let r = rule-parts edition s c e in
+      let p = both (agreeUnder mask (s .name) (c .name)) _ (r .0) in
       record {
         bits = bits mask (s .name) (c .name) (p .0);
-        masked = λ o. bits mask (s .profile .master) (c .master) (sym (pick-true own _ _ (own-is o)) ∙ p .1);
+        masked = λ o. bits mask (s .profile .master) (c .master) (sym (pick-true own _ _ (own-is s c o)) ∙ p .1);
         otherwise = λ h. eqb-true _ _ (sym (pick-false own _ _ (not-own own refl h)) ∙ p .1);
+        identity = λ z. low-bits 21 (s .name) (c .name) (r .1 z);
       }
     where
       not-own : (b : Bool) → own ≡ b → (BothOwn s c → ⊥) → own ≡ false
-      not-own true e h = absurd (h (is-own e))
+      not-own true e h = absurd (h (is-own s c e))
       not-own false e h = e
 
-  names-only : mask < 2 ^ 64 → SameNames s c → namesAgree s c ≡ true
-  names-only h n = rw (bits-only mask (s .name) (c .name) h (n .bits)) (go own refl)
+  names-only : mask < 2 ^ 64 → SameNames edition s c → ruleOf edition s c ≡ true
+  names-only h n =
+      rule-whole edition s c (rw (bits-only mask (s .name) (c .name) h (n .bits)) (go own refl)) (λ z. low-only 21 (s .name) (c .name) (n .identity z))
     where
       go : (b : Bool) → own ≡ b → mastersAgree own mask (s .profile .master) (c .master) ≡ true
-      go true e = pick-true own _ _ e ∙ bits-only mask (s .profile .master) (c .master) h (n .masked (is-own e))
-      go false e = pick-false own _ _ e ∙ eq-eqb _ _ (n .otherwise (λ o. true≢false (sym (own-is o) ∙ e)))
+      go true e = pick-true own _ _ e ∙ bits-only mask (s .profile .master) (c .master) h (n .masked (is-own s c e))
+      go false e = pick-false own _ _ e ∙ eq-eqb _ _ (n .otherwise (λ o. true≢false (sym (own-is s c o) ∙ e)))
 
 -- ---- labels
 

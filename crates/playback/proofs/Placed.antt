@@ -14,7 +14,7 @@ use Rattle.arrays.proofs.First.{first-same}
 use Rattle.client.specs.{Clients.blankSlot, Records.blankRecord, declared.Client.Client, declared.ClientRecord.ClientRecord}
 use Rattle.sequence.specs.{Sequence.blankStep, Sequence.lengthOf, Sequence.stepsOf, declared.Step.Step, declared.Sequence.Sequence}
 use Rattle.playback.specs.Pairs.{pairs}
-use Rattle.playback.specs.Verification.{Check, firstFailing, namesAgree, isInPool, clientChecks, stepChecks, readyChecks, checksBy, verifyOf}
+use Rattle.playback.specs.Verification.{Check, Rule, firstFailing, ruleOf, isInPool, clientChecks, stepChecks, readyChecks, checksBy, verifyBy, verifyOf}
 use Rattle.playback.specs.Named.{lowestSlot, firstMissing, namedBy, namedOf}
 use Rattle.playback.specs.Places.{Cells, LowestFails, FirstMissing, Places}
 use Rattle.playback.proofs.Pairs.{length-pairs, getD-pairs}
@@ -43,22 +43,26 @@ decided a b c x y z = by-first (within-first 8 10 a x)
     by-first (inr r) = let h = r .0 in let l = r .1 in let k = found a (b ++ c) (λ n. omega arith) in inl (k, omega arith, omega arith)
 
 module _ (slots : List Client) (q : Sequence) where
+  -- the rule of its edition
+  abbrev rule : Rule
+  rule = ruleOf (q .edition)
+
   -- what is known of the number
   abbrev Which : ℕ → Type 0
-  Which v = (v ≡ 7) ⊎ Decided (clients namesAgree slots q) (steps namesAgree slots q) (reports namesAgree slots q) v
+  Which v = (v ≡ 7) ⊎ Decided (clients rule slots q) (steps rule slots q) (reports rule slots q) v
 
   which : Which (verifyOf slots q)
-  unfolding pick firstFailing checksBy verifyOf
+  unfolding pick firstFailing checksBy verifyBy
   which = go (eqb (q .count) 0)
     where
-      go : (b : Bool) → Which (pick (not b) (firstFailing (clients namesAgree slots q ++ (steps namesAgree slots q ++ reports namesAgree slots q))) 7)
+      go : (b : Bool) → Which (pick (not b) (firstFailing (clients rule slots q ++ (steps rule slots q ++ reports rule slots q))) 7)
       go true = inl refl
       go false =
-          inr (decided (clients namesAgree slots q) (steps namesAgree slots q) (reports namesAgree slots q) (within-all 8 10 (clientChecks namesAgree) (client-within namesAgree) (pairs slots (q .records)))
+          inr (decided (clients rule slots q) (steps rule slots q) (reports rule slots q) (within-all 8 10 (clientChecks rule) (client-within rule) (pairs slots (q .records)))
           (within-all 11 11 (stepChecks slots) (step-within slots) (stepsOf q)) (within-all 12 12 readyChecks ready-within (pairs slots (q .records))))
 
   -- the slot that is named with 8, 9 and 10
-  named-client : (v : ℕ) → 8 ≤ v → v ≤ 10 → namedBy v slots q .slot ≡ lowestSlot (clientChecks namesAgree) slots (q .records)
+  named-client : (v : ℕ) → 8 ≤ v → v ≤ 10 → namedBy v slots q .slot ≡ lowestSlot (clientChecks rule) slots (q .records)
   unfolding pick namedBy
   named-client v h k = rw (ne-eqb v 11 (λ e. omega arith), ne-eqb v 12 (λ e. omega arith), le-leb 8 v h)
 
@@ -80,14 +84,14 @@ module _ (slots : List Client) (q : Sequence) where
         at i h = getD-pairs slots (q .records) i blankSlot blankRecord (omega (arith, c .in-slots)) (omega (arith, c .in-records))
 
     client : 8 ≤ verifyOf slots q → verifyOf slots q ≤ 10
-        → LowestFails (clientChecks namesAgree) slots (q .records) (namedOf slots q .slot) (verifyOf slots q)
+        → LowestFails (clientChecks rule) slots (q .records) (namedOf slots q .slot) (verifyOf slots q)
     unfolding namedOf
     client h k = rw (named-client (verifyOf slots q) h k) (go which)
       where
         go : Which (verifyOf slots q)
-            → LowestFails (clientChecks namesAgree) slots (q .records) (lowestSlot (clientChecks namesAgree) slots (q .records)) (verifyOf slots q)
+            → LowestFails (clientChecks rule) slots (q .records) (lowestSlot (clientChecks rule) slots (q .records)) (verifyOf slots q)
         go (inl e) = absurd (omega arith)
-        go (inr (inl (e, f, k))) = lowest-fails (clientChecks namesAgree) (client-numbered namesAgree) (verifyOf slots q) e (λ z. omega arith)
+        go (inr (inl (e, f, k))) = lowest-fails (clientChecks rule) (client-numbered rule) (verifyOf slots q) e (λ z. omega arith)
         go (inr (inr (inl (e, f)))) = absurd (omega arith)
         go (inr (inr (inr (e, inl f)))) = absurd (omega arith)
         go (inr (inr (inr (e, inr f)))) = absurd (omega arith)
@@ -135,7 +139,7 @@ module _ (slots : List Client) (q : Sequence) where
         go true e = absurd (omega arith)
         go false e = refl
 
-    missing : firstFailing (steps namesAgree slots q) ≡ 11
+    missing : firstFailing (steps rule slots q) ≡ 11
         → FirstMissing slots q (getD (q .steps) (firstMissing slots (stepsOf q)) blankStep .slot) (firstMissing slots (stepsOf q))
     unfolding firstMissing
     missing e =

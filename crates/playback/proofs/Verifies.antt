@@ -10,7 +10,7 @@ use Rattle.octets.specs.Pick.{pick}
 use Rattle.client.specs.Clients.{blankSlot}
 use Rattle.client.specs.declared.Client.{Client}
 use Rattle.sequence.specs.declared.Step.{Step}
-use Rattle.playback.specs.Verification.{Check, firstFailing, namesAgree, isListed, isInPool, checksOf, verifyOf}
+use Rattle.playback.specs.Verification.{Check, firstFailing, ruleOf, isListed, isInPool, checksOf, verifyBy}
 use Rattle.playback.specs.Promises.{EveryHolds, FirstFails, Verifies}
 use Rattle.playback.proofs.Failing.{Numbered, within-first, checks-numbered}
 
@@ -39,11 +39,11 @@ unfolding isInPool
 bound slots s h = rw (lt-ltb _ _ h)
 
 pub verifies : Verifies
-unfolding verifyOf
+unfolding verifyBy
 verifies = record {
-  starts = λ slots q h. starts (checksOf slots q) h;
-  only = λ slots q e. only (checksOf slots q) (checks-numbered namesAgree slots q) e;
-  names = λ slots q h. names (checksOf slots q) h;
-  numbers = λ slots q. within-first 7 12 (checksOf slots q) (checks-numbered namesAgree slots q);
+  starts = λ edition slots q h. starts (checksOf edition slots q) h;
+  only = λ edition slots q e. only (checksOf edition slots q) (checks-numbered (ruleOf edition) slots q) e;
+  names = λ edition slots q h. names (checksOf edition slots q) h;
+  numbers = λ edition slots q. within-first 7 12 (checksOf edition slots q) (checks-numbered (ruleOf edition) slots q);
   bound = bound;
 }

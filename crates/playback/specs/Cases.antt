@@ -8,7 +8,7 @@ use Rattle.octets.specs.Pick.{pick}
 use Rattle.message.specs.{declared.Reply.Reply, declared.Status.the-variants.Started}
 use Rattle.arrays.specs.Arrays.{padTo}
 use Rattle.client.specs.{Clients.slotCount, Records.blankRecord}
-use Rattle.sequence.specs.{Sequence.mostSteps, Sequence.blankStep, declared.Step.Step, declared.Sequence.Sequence}
+use Rattle.sequence.specs.{Sequence.mostSteps, Sequence.blankStep, Editions.firstEdition, declared.Step.Step, declared.Sequence.Sequence}
 use Rattle.playback.specs.{declared.Sent.Sent, declared.Ticked.Ticked, Tick.tickOf, Frames.frameCountOf, Answer.answeredOf}
 use Rattle.playback.specs.State.{goesOn, toAbort, blankPlayback}
 
@@ -17,7 +17,7 @@ abbrev pub marked : ℕ → ℕ → Step
 marked distance mark = record { slot = 1; function = 5; state = 2; distance = distance; value = 240; mark = mark }
 
 abbrev pub sequenceWith : List Step → Sequence
-sequenceWith l = record { count = length l; steps = padTo blankStep mostSteps l; records = replicate slotCount blankRecord }
+sequenceWith l = record { count = length l; edition = firstEdition; steps = padTo blankStep mostSteps l; records = replicate slotCount blankRecord }
 
 -- after the ticks that bring these millimetres, one after the other; none follows one that ends it
 abbrev pub onward : Sequence → Ticked → List ℕ → Ticked

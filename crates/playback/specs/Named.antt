@@ -11,7 +11,7 @@ use Rattle.client.specs.{Clients.slotCount, declared.Client.Client, declared.Cl
 use Rattle.sequence.specs.Sequence.{mostSteps, blankStep, stepsOf}
 use Rattle.sequence.specs.{declared.Step.Step, declared.Sequence.Sequence}
 use Rattle.playback.specs.{declared.named.Named.Named, Pairs.pairs}
-use Rattle.playback.specs.Verification.{Check, firstFailing, namesAgree, isInPool, clientChecks, readyChecks, verifyOf}
+use Rattle.playback.specs.Verification.{Check, firstFailing, ruleOf, isInPool, clientChecks, readyChecks, verifyOf}
 
 -- some check of a client does not hold
 abbrev pub fails : (Client × ClientRecord → List Check) → Client × ClientRecord → Bool
@@ -34,7 +34,7 @@ namedBy number slots q =
       slot =
           pick (eqb number notInPool) (getD (q .steps) step blankStep .slot)
           (pick (eqb number notReady) (lowestSlot readyChecks slots (q .records))
-          (pick (leb notEnabled number) (lowestSlot (clientChecks namesAgree) slots (q .records))
+          (pick (leb notEnabled number) (lowestSlot (clientChecks (ruleOf (q .edition))) slots (q .records))
           0));
       step = step;
     }

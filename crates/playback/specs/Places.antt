@@ -8,7 +8,7 @@ use Rattle.octets.specs.Numbers.{completed, notEnabled, labelDiffers, notInPool
 use Rattle.client.specs.{Clients.slotCount, Clients.blankSlot, Records.blankRecord, declared.Client.Client, declared.ClientRecord.ClientRecord}
 use Rattle.sequence.specs.Sequence.{mostSteps, blankStep, lengthOf}
 use Rattle.sequence.specs.declared.Sequence.{Sequence}
-use Rattle.playback.specs.Verification.{Check, firstFailing, namesAgree, isInPool, clientChecks, readyChecks, verifyOf}
+use Rattle.playback.specs.Verification.{Check, firstFailing, ruleOf, isInPool, clientChecks, readyChecks, verifyOf}
 use Rattle.playback.specs.Named.{namedOf}
 
 -- as many cells as the types have
@@ -35,7 +35,7 @@ pub record Places : Type 0 where
   -- 8, 9 and 10
   pub client :
       (slots : List Client) (q : Sequence) → Cells slots q → notEnabled ≤ namedOf slots q .number → namedOf slots q .number ≤ labelDiffers
-      → LowestFails (clientChecks namesAgree) slots (q .records) (namedOf slots q .slot) (namedOf slots q .number)
+      → LowestFails (clientChecks (ruleOf (q .edition))) slots (q .records) (namedOf slots q .slot) (namedOf slots q .number)
   -- 11
   pub step : (slots : List Client) (q : Sequence) → Cells slots q → namedOf slots q .number ≡ notInPool → FirstMissing slots q (namedOf slots q .slot) (namedOf slots q .step)
   -- 12

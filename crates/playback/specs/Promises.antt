@@ -14,7 +14,7 @@ use Rattle.sequence.specs.Sequence.{mostSteps, blankStep, lengthOf}
 use Rattle.sequence.specs.{declared.Step.Step, declared.Sequence.Sequence}
 use Rattle.playback.specs.{declared.Playback.Playback, Answer.findAnswered, Answer.answeredOf}
 use Rattle.playback.specs.State.{answerDone, goesOn, toAbort, blankSent, blankPlayback}
-use Rattle.playback.specs.Verification.{Check, namesAgree, sameLabel, isListed, isInPool, checksOf, verifyOf}
+use Rattle.playback.specs.Verification.{Check, ruleOf, sameLabel, isListed, isInPool, checksOf, verifyBy}
 use Rattle.playback.specs.Tick.{isDue, doesLeave, tickOf}
 use Rattle.playback.specs.Frames.{frameOf, frameCountOf, framesOf}
 
@@ -32,12 +32,16 @@ pub record FirstFails (checks : List Check) (number : ℕ) : Type 0 where
   pub all : checks ≡ earlier ++ (false, number) ∷ later
   pub hold : EveryHolds earlier
 
--- "starts exactly when" every check holds; otherwise the first that does not is named
+-- "starts exactly when" every check holds; otherwise the first that does not is named. 02, request 11: "Prove once, over both editions": over any
 pub record Verifies : Type 0 where
-  pub starts : (slots : List Client) (q : Sequence) → EveryHolds (checksOf slots q) → verifyOf slots q ≡ completed
-  pub only : (slots : List Client) (q : Sequence) → verifyOf slots q ≡ completed → EveryHolds (checksOf slots q)
-  pub names : (slots : List Client) (q : Sequence) → (verifyOf slots q ≡ completed → ⊥) → FirstFails (checksOf slots q) (verifyOf slots q)
-  pub numbers : (slots : List Client) (q : Sequence) → (verifyOf slots q ≡ completed) ⊎ ((noStep ≤ verifyOf slots q) × (verifyOf slots q ≤ notReady))
+  pub starts : (edition : ℕ) (slots : List Client) (q : Sequence) → EveryHolds (checksOf edition slots q) → verifyBy edition slots q ≡ completed
+  pub only : (edition : ℕ) (slots : List Client) (q : Sequence) → verifyBy edition slots q ≡ completed → EveryHolds (checksOf edition slots q)
+  pub names :
+      (edition : ℕ) (slots : List Client) (q : Sequence) → (verifyBy edition slots q ≡ completed → ⊥)
+      → FirstFails (checksOf edition slots q) (verifyBy edition slots q)
+  pub numbers :
+      (edition : ℕ) (slots : List Client) (q : Sequence)
+      → (verifyBy edition slots q ≡ completed) ⊎ ((noStep ≤ verifyBy edition slots q) × (verifyBy edition slots q ≤ notReady))
   -- the bound that a step's slot is held against, which 01 does not have, never decides where every slot is one of the eight
   pub bound :
       (slots : List Client) (s : Step) → s .slot < slotCount → isInPool slots s ≡ isListed (getD slots (s .slot) blankSlot .profile) (s .function) (s .state)
@@ -50,18 +54,20 @@ SameBits mask a b = (k : ℕ) → k < 64 → hasBit mask k ≡ true → hasBit a
 abbrev pub BothOwn : Client → ClientRecord → Type 0
 BothOwn s c = (c .master ≡ c .name) × (s .profile .master ≡ s .name)
 
-pub record SameNames (s : Client) (c : ClientRecord) : Type 0 where
+pub record SameNames (edition : ℕ) (s : Client) (c : ClientRecord) : Type 0 where
   -- "NAMEs agree if they agree on every bit set in the loaded pool's mask."
   pub bits : SameBits (s .profile .mask) (s .name) (c .name)
   -- "where .., the mask applies to both."
   pub masked : BothOwn s c → SameBits (s .profile .mask) (s .profile .master) (c .master)
   -- "Otherwise all 64 bits count, as before."
   pub otherwise : (BothOwn s c → ⊥) → s .profile .master ≡ c .master
+  -- 02, request 11: "edition 2 demand that the lowest 21 bits of the client's NAME .. agree too, no matter what the mask says"
+  pub identity : edition ≡ 2 → (k : ℕ) → k < 21 → hasBit (s .name) k ≡ hasBit (c .name) k
 
 -- the tests of NAMEs and labels say no more and no less; a mask has 64 bits
 pub record Agrees : Type 0 where
-  pub names : (s : Client) (c : ClientRecord) → namesAgree s c ≡ true → SameNames s c
-  pub names-only : (s : Client) (c : ClientRecord) → s .profile .mask < 2 ^ 64 → SameNames s c → namesAgree s c ≡ true
+  pub names : (edition : ℕ) (s : Client) (c : ClientRecord) → ruleOf edition s c ≡ true → SameNames edition s c
+  pub names-only : (edition : ℕ) (s : Client) (c : ClientRecord) → s .profile .mask < 2 ^ 64 → SameNames edition s c → ruleOf edition s c ≡ true
   pub labels : (a b : Label) → sameLabel a b ≡ true → (a .length ≡ b .length) × (a .bytes ≡ b .bytes)
   pub labels-only : (a b : Label) → a .length ≡ b .length → a .bytes ≡ b .bytes → sameLabel a b ≡ true
 

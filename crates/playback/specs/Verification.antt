@@ -1,9 +1,9 @@
 -- 01, "Verification and playback": "Start, from ready: 7; then for each slot of the sequence, lowest first, 8, 9 and 10 before the next slot; then by
 -- step 11; then by slot 12. NAMEs agree if they agree on every bit set in the loaded pool's mask." What follows there, "The master NAME must agree in all
 -- 64 bits.", 02, request 2, has changed: "where the stored master NAME equals the stored client NAME, and the loaded one equals the loaded client NAME,
--- the mask applies to both. Otherwise all 64 bits count, as before."
+-- the mask applies to both. Otherwise all 64 bits count, as before." Request 11 has added to it by the sequence's edition.
 use Prim.Native.Nat.{ℕ, _-_, min}
-use mathlib.Core.Bool.{Bool, true, false, not, _&&_}
+use mathlib.Core.Bool.{Bool, true, false, not, _&&_, _||_}
 use mathlib.Core.List.{List, [], _∷_, _++_, flatMap}
 use lib.Bits.{bitAnd}
 use lib.Dec.{eqb, ltb}
@@ -13,7 +13,7 @@ use Rattle.octets.specs.Numbers.{completed, noStep, notEnabled, nameDiffers, la
 use Rattle.profile.specs.{Profile.trigger, Profile.hasState, declared.Profile.Profile}
 use Rattle.client.specs.Clients.{slotCount, readyReport, isEnabled, blankSlot}
 use Rattle.client.specs.{Records.isUsed, declared.Client.Client, declared.ClientRecord.ClientRecord}
-use Rattle.sequence.specs.{Sequence.stepsOf, declared.Step.Step, declared.Sequence.Sequence}
+use Rattle.sequence.specs.{Sequence.stepsOf, Editions.secondEdition, declared.Step.Step, declared.Sequence.Sequence}
 use Rattle.playback.specs.Pairs.{pairs}
 
 -- ---- a list of checks, each with its number
@@ -45,10 +45,22 @@ mastersAgree own mask loaded stored = pick own (agreeUnder mask loaded stored) (
 abbrev pub Rule : Type 0
 Rule = Client → ClientRecord → Bool
 
--- the rule that is in force: "NAMEs agree if they agree on every bit set in the loaded pool's mask.", and the master NAMEs agree
+-- "NAMEs agree if they agree on every bit set in the loaded pool's mask.", and the master NAMEs agree
 abbrev pub namesAgree : Rule
 namesAgree s c =
     agreeUnder (s .profile .mask) (s .name) (c .name) && mastersAgree (bothOwn s c) (s .profile .mask) (s .profile .master) (c .master)
+
+-- 02, request 11: "the lowest 21 bits of the client's NAME, its identity number in ISO 11783-5"
+abbrev pub identityBits : ℕ
+identityBits = 0x1FFFFF
+
+-- ".. agree too, no matter what the mask says"
+abbrev pub identitiesAgree : Rule
+identitiesAgree s c = agreeUnder identityBits (s .name) (c .name)
+
+-- "Stored sequences of edition 2 demand" both; "Edition 1 files keep the rule they have."
+unfoldable pub ruleOf : ℕ → Rule
+ruleOf edition s c = (not (eqb edition secondEdition) || identitiesAgree s c) && namesAgree s c
 
 -- ---- labels
 
@@ -110,9 +122,13 @@ checksBy agree slots q =
     ++ (flatMap (stepChecks slots) (stepsOf q)
     ++ flatMap readyChecks (pairs slots (q .records)))
 
--- by the rule that is in force
-abbrev pub checksOf : List Client → Sequence → List Check
-checksOf slots q = checksBy namesAgree slots q
+-- by the rule of an edition
+abbrev pub checksOf : ℕ → List Client → Sequence → List Check
+checksOf edition slots q = checksBy (ruleOf edition) slots q
 
-unfoldable pub verifyOf : List Client → Sequence → ℕ
-verifyOf slots q = firstFailing (checksOf slots q)
+unfoldable pub verifyBy : ℕ → List Client → Sequence → ℕ
+verifyBy edition slots q = firstFailing (checksOf edition slots q)
+
+-- by that of the sequence's own
+abbrev pub verifyOf : List Client → Sequence → ℕ
+verifyOf slots q = verifyBy (q .edition) slots q

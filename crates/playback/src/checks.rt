@@ -9,7 +9,7 @@ ghost use Rattle.arrays.specs.Arrays.{firstFrom};
 ghost use Rattle.client.specs.Clients.{slotCount};
 ghost use Rattle.sequence.specs.Sequence.{mostSteps, stepsOf};
 ghost use Rattle.playback.specs.Pairs.{pairs};
-ghost use Rattle.playback.specs.Verification.{firstFailing, agreeUnder, mastersAgree, namesAgree, sameBytes, sameLabel, labelsAgree, askedSlot, isMissing, clientChecks, stepChecks};
+ghost use Rattle.playback.specs.Verification.{firstFailing, agreeUnder, mastersAgree, namesAgree, ruleOf, sameBytes, sameLabel, labelsAgree, askedSlot, isMissing, clientChecks, stepChecks};
 use arrays::at_most;
 use client::Client;
 use client::ClientRecord;
@@ -23,8 +23,12 @@ use octets::numbers::NOT_ENABLED;
 use octets::numbers::NOT_IN_POOL;
 use profile::Profile;
 use sequence::MOST_STEPS;
+use sequence::SECOND_EDITION;
 use sequence::Sequence;
 use sequence::Step;
+
+// The identity number of a NAME: its lowest 21 bits.
+const IDENTITY_BITS: u64 = 0x1FFFFF;
 
 // Two NAMEs agree on every bit that is set in the mask.
 fn agree_under(mask: u64, a: u64, b: u64) -> bool
@@ -50,6 +54,14 @@ fn names_agree(client: Client, recorded: ClientRecord) -> bool
     let owned = (recorded.master == recorded.name) & (profile.master == client.name);
     agree_under(profile.mask, client.name, recorded.name)
         & masters_agree(owned, profile.mask, profile.master, recorded.master)
+}
+
+// By the rule of an edition: in edition 2 the identity numbers agree too, no matter what the mask says.
+fn agree_by(edition: u32, client: Client, recorded: ClientRecord) -> bool
+    ensures { λ r. ⌜ r ≡ ruleOf edition client recorded ⌝ }
+{
+    ((edition != SECOND_EDITION) | agree_under(IDENTITY_BITS, client.name, recorded.name))
+        & names_agree(client, recorded)
 }
 
 fn same_bytes(a: [u8; 63], b: [u8; 63]) -> bool
@@ -85,8 +97,8 @@ fn labels_agree(client: Client, recorded: ClientRecord) -> bool
 }
 
 // 8, 9, 10; done also where the slot is not one of the sequence.
-pub fn client_check(client: Client, recorded: ClientRecord) -> u8
-    ensures { λ r. ⌜ r ≡ firstFailing (clientChecks namesAgree (client, recorded)) ⌝ }
+pub fn client_check(edition: u32, client: Client, recorded: ClientRecord) -> u8
+    ensures { λ r. ⌜ r ≡ firstFailing (clientChecks (ruleOf edition) (client, recorded)) ⌝ }
 {
     if recorded.used == 0 {
         return DONE;
@@ -94,7 +106,7 @@ pub fn client_check(client: Client, recorded: ClientRecord) -> u8
     if !client.is_enabled() {
         return NOT_ENABLED;
     }
-    if !names_agree(client, recorded) {
+    if !agree_by(edition, client, recorded) {
         return NAME_DIFFERS;
     }
     if !labels_agree(client, recorded) {
@@ -148,7 +160,7 @@ pub fn first_missing_in(
 
 // 8, 9 and 10 by slot, then 11. A slot is copied once: for its client's checks, and to look for its steps.
 pub fn first_check(slots: [Client; SLOTS], sequence: Sequence) -> u8
-    ensures { λ r. ⌜ r ≡ firstFailing (flatMap (clientChecks namesAgree) (pairs slots (sequence .records)) ++ flatMap (stepChecks slots) (stepsOf sequence)) ⌝ }
+    ensures { λ r. ⌜ r ≡ firstFailing (flatMap (clientChecks (ruleOf (sequence .edition))) (pairs slots (sequence .records)) ++ flatMap (stepChecks slots) (stepsOf sequence)) ⌝ }
 {
     let records = sequence.records;
     let steps = sequence.steps;
@@ -157,7 +169,7 @@ pub fn first_check(slots: [Client; SLOTS], sequence: Sequence) -> u8
     while i < SLOTS {
         let client = slots[i];
         let profile = client.profile;
-        let number = client_check(client, records[i]);
+        let number = client_check(sequence.edition, client, records[i]);
         if number != DONE {
             return number;
         }

@@ -2,7 +2,7 @@
 ghost use mathlib.Core.Path.{_≡_};
 ghost use lib.ListN.{getD, take};
 ghost use Rattle.sequence.specs.Sequence.{blankStep};
-ghost use Rattle.playback.specs.Verification.{namesAgree, clientChecks, readyChecks};
+ghost use Rattle.playback.specs.Verification.{ruleOf, clientChecks, readyChecks};
 ghost use Rattle.playback.specs.Named.{lowestSlot, firstMissing, namedBy};
 use crate::checks::client_check;
 use crate::checks::first_missing_in;
@@ -28,12 +28,12 @@ pub struct Named {
 }
 
 // The lowest slot of which 8, 9 or 10 does not hold, 8 where there is none.
-fn lowest_failing(slots: [Client; SLOTS], records: [ClientRecord; SLOTS]) -> usize
-    ensures { λ r. ⌜ r ≡ lowestSlot (clientChecks namesAgree) slots records ⌝ }
+fn lowest_failing(edition: u32, slots: [Client; SLOTS], records: [ClientRecord; SLOTS]) -> usize
+    ensures { λ r. ⌜ r ≡ lowestSlot (clientChecks (ruleOf edition)) slots records ⌝ }
 {
     let mut i: usize = 0;
     while i < SLOTS {
-        if client_check(slots[i], records[i]) != DONE {
+        if client_check(edition, slots[i], records[i]) != DONE {
             return i;
         }
         i += 1;
@@ -103,7 +103,7 @@ pub fn named_by(number: u8, slots: [Client; SLOTS], sequence: Sequence) -> Named
     if number >= NOT_ENABLED {
         return Named {
             number,
-            slot: lowest_failing(slots, records),
+            slot: lowest_failing(sequence.edition, slots, records),
             step: 0,
         };
     }

@@ -19,7 +19,7 @@ use Rattle.playback.specs.State.{blankPlayback}
 use Rattle.playback.specs.Tick.{nextTan}
 use Rattle.playback.specs.Frames.{frameOf}
 use Rattle.playback.specs.Promises.{EveryHolds}
-use Rattle.playback.specs.Verification.{namesAgree, stepChecks, checksBy}
+use Rattle.playback.specs.Verification.{ruleOf, stepChecks, checksBy}
 use Rattle.playback.proofs.Holding.{steps-hold, step-listed}
 use Rattle.playback.proofs.Framing.{framing}
 use Rattle.replay.specs.Run.{Whole, raised}
@@ -62,7 +62,7 @@ steps-count q w = omega (arith, w, length-take (q .count) (q .steps))
 state-few : (b : Master) → Whole (b .sequence) → apply b start .number ≡ 0 → (i : ℕ) → i < lengthOf (b .sequence) → stepAt b i .state < 64
 state-few b w z i h =
     let here = every-at (λ (x : Step). EveryHolds (stepChecks (b .slots) x)) (stepsOf (b .sequence)) i blankStep (omega (arith, h, steps-count (b .sequence) w))
-    (steps-hold namesAgree (b .slots) (b .sequence) (start-exactly .only b z .1)) in
+    (steps-hold (ruleOf (b .sequence .edition)) (b .slots) (b .sequence) (start-exactly .only b z .1)) in
     step-listed (b .slots) (stepAt b i)
     (subst (λ (x : Step). EveryHolds (stepChecks (b .slots) x)) (steps-taken (b .sequence) i h) here) .1
 

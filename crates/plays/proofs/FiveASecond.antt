@@ -27,10 +27,10 @@ use Rattle.master.specs.Messages.{replyIn}
 use Rattle.master.specs.Recording.{recordingEnded, recordCall, stopCall, cancelCall, indicationCall}
 use Rattle.master.specs.Clients.{onCall, offCall, attachCall, wantCall, reportCall, lostCall}
 use Rattle.master.specs.Playback.{startCall, abortCall, clientAbortCall, answerCall}
-use Rattle.master.specs.Storing.{loadCall}
+use Rattle.master.specs.{Storing.loadCall, Editions.editionCall}
 use Rattle.replay.specs.Run.{sentAt}
 use Rattle.replay.proofs.Cells.{marked-left, marked-tan}
-use Rattle.events.specs.Events.{Event, on, off, «record», stop, cancel, start, abort, attach, enable, disable, report, lost, indication, clientAbort, tick, answer, store, load, Sort, stops, hears, ticks, answers, loads, other, sortOf, numberBy, whichCall, callOf, apply, lentAfter, runFrom, Given}
+use Rattle.events.specs.Events.{Event, on, off, «record», stop, cancel, start, abort, attach, enable, disable, report, lost, indication, clientAbort, tick, answer, store, load, edition, Sort, stops, hears, ticks, answers, loads, other, sortOf, numberBy, whichCall, callOf, apply, lentAfter, runFrom, Given}
 use Rattle.events.proofs.Calls.{number-is, same-master, after-is, count-is, either-way}
 use Rattle.events.proofs.Choices.{chosen, either}
 use Rattle.events.proofs.Changes.{Near, itself, slotted, Change, rested, moved, dropped, broken, recordStarts, recordWaits, recordEnds, recordHears, recordHearsLast, recordTicks, playStarts, playTicks, playTicksLast, playHears, playHearsLast, replaced}
@@ -344,7 +344,7 @@ no-tick frame m e (loads blocks) a = refl
 no-tick frame m e (other n) a = refl
 
 bare-count : (m : Master) (e : Event) → ((mm : ℕ) (out : List ℕ) → e ≡ tick mm out → ⊥) → ((out : List ℕ) → e ≡ store out → ⊥) → callOf m e .count ≡ 0
-unfolding onCall offCall attachCall wantCall reportCall lostCall recordCall stopCall cancelCall indicationCall startCall abortCall clientAbortCall answerCall loadCall
+unfolding onCall offCall attachCall wantCall reportCall lostCall recordCall stopCall cancelCall indicationCall startCall abortCall clientAbortCall answerCall loadCall editionCall
 bare-count m on a b = refl
 bare-count m off a b = refl
 bare-count m «record» a b = refl
@@ -363,6 +363,7 @@ bare-count m (tick mm out) a b = absurd (a mm out refl)
 bare-count m (answer slot msg out) a b = refl
 bare-count m (store out) a b = absurd (b out refl)
 bare-count m (load blocks) a b = refl
+bare-count m (edition n) a b = refl
 
 refused-count : (m : Master) (c : Call) → (outcomeOf m c .number ≡ 0 → ⊥) → outcomeOf m c .count ≡ 0
 unfolding pick outcomeOf

@@ -133,7 +133,9 @@ of-step P q full i l h =
 
 -- a start keeps the sequence
 kept : Ways → (m : Master) → apply m start .master .sequence ≡ m .sequence
-kept w m = w .keeps m start (λ e. omega (arith, ap whichCall e)) (λ slot msg out e. omega (arith, ap whichCall e)) (λ blocks e. omega (arith, ap whichCall e))
+kept w m =
+    w .keeps m start (λ e. omega (arith, ap whichCall e)) (λ slot msg out e. omega (arith, ap whichCall e)) (λ blocks e. omega (arith, ap whichCall e))
+    (λ n e. omega (arith, ap whichCall e))
 
 -- a frame that commands the step, by its origin
 by-origin :

@@ -21,8 +21,8 @@ pub record Promises : Type 0 where
   pub determined : Determined
   -- ---- "1. No pool, message or order of calls makes it misbehave."
 
-  -- of every event in every state; with it "starts exactly when", the check that is named to the screen, and who gains by the rule of 9 that 02, request 2,
-  -- has
+  -- of every event in every state; with it "starts exactly when", the check that is named to the screen, and who gains by the rule of 9 of 02, request 2,
+  -- and who loses by that of request 11
   pub calls : events.Promises
   -- "refuses bad input by a number from document 01": exactly where its table and its rules say so
   pub numbers : Numbers
@@ -53,7 +53,7 @@ pub record Promises : Type 0 where
   pub recording : recording.Promises
   pub recorded : history.Promises
   -- 02, request 1: what is stored is loaded again, a change is found, and what is accepted is in its ranges: of any sequence and any bytes. Over every run
-  -- of calls it is `recorded .stored`
+  -- of calls it is `recorded .stored`. Request 11: what was stored before there were editions is what is stored in edition 1
   pub blocks : store.Promises
   -- "Playback starts exactly when every check of 01 holds; otherwise the first check that does not hold is named."
   pub verification : Verifies

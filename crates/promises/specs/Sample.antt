@@ -1,5 +1,5 @@
 -- Runs that meet what the theorems ask for: a client is attached, a step of value 240 is recorded, the playback starts, and the step leaves; and it starts
--- too where the neighbour's identical drill has come in its place.
+-- too where the neighbour's identical drill has come in its place, but not in edition 2.
 use Prim.Native.Nat.{ℕ, _+_, _≤_}
 use mathlib.Core.Path.{_≡_}
 use mathlib.Core.List.{List, [], _∷_, _++_}
@@ -7,7 +7,7 @@ use lib.ListN.{length, getD, take, drop, replicate}
 use Rattle.octets.specs.Numbers.{completed, nameDiffers}
 use Rattle.sequence.specs.Sequence.{blankStep}
 use Rattle.master.specs.declared.Master.{Master}
-use Rattle.events.specs.Events.{Event, on, «record», stop, start, report, lost, indication, tick, apply, run, runFrom}
+use Rattle.events.specs.Events.{Event, on, «record», stop, start, report, lost, indication, tick, edition, apply, run, runFrom}
 use Rattle.events.specs.Examples.{poolBytes, indicationMessage, eightBytes, readyClient, recordedRun, playingRun, frameBuffer}
 use Rattle.events.specs.Neighbour.{numberBefore}
 use Rattle.plays.specs.Plays.{Started, Lasts, ticksIn, commandOf, LeftAt}
@@ -49,3 +49,6 @@ pub record Sample : Type 0 where
   pub loaded-elsewhere : apply (exchanged 7 9) start .number ≡ nameDiffers
   pub stored-elsewhere : apply (exchanged 9 8) start .number ≡ nameDiffers
   pub same-elsewhere : apply (exchanged 9 9) start .number ≡ completed
+  -- 02, request 11: in edition 2 the drill that recorded starts still, and the neighbour's identical drill gets 9: `TwoRules` does not speak of nothing
+  pub own-drill : apply (run (recordedRun ++ edition 2 ∷ [])) start .number ≡ completed
+  pub refused : apply (apply (exchanged 7 8) (edition 2) .master) start .number ≡ nameDiffers

@@ -63,6 +63,8 @@ sound-none =
       slots = refl;
       recorded = λ slot h. rw (getD-replicate 8 slot blankRecord blankRecord h) unused;
       unrecorded = λ slot h _. getD-replicate 8 slot blankRecord blankRecord h;
+      edition = λ h. absurd (omega arith);
+      no-edition = λ _. refl;
     }
 
 module _ (r : Recording) (old : Sequence) (s : Sound r) where
@@ -73,12 +75,15 @@ module _ (r : Recording) (old : Sequence) (s : Sound r) where
   unfolding pick keptSequence
   keeps-none n = rw (those-none stays (heldOf r) n)
 
-  keeps-some : some stays (heldOf r) ≡ true → keptSequence r old ≡ sequenceOf kept (r .records)
-  unfolding pick keptSequence
-  keeps-some n =
+  some-kept : some stays (heldOf r) ≡ true → 1 ≤ length kept
+  some-kept n =
       let a = those-some stays (heldOf r) n in
       let b = length-map (those stays (heldOf r)) stepIn in
-      rw (ne-eqb (length kept) 0 (λ z. omega arith))
+      omega arith
+
+  keeps-some : some stays (heldOf r) ≡ true → keptSequence r old ≡ sequenceOf kept (r .records)
+  unfolding pick keptSequence
+  keeps-some n = rw (ne-eqb (length kept) 0 (λ z. omega (arith, some-kept n)))
 
   fits : length kept ≤ 64
   fits = stayed-fits (r .steps) (r .count) (full r s)
@@ -100,8 +105,9 @@ module _ (r : Recording) (old : Sequence) (s : Sound r) where
   at : (slot : ℕ) → slot < 8 → getD (recordsFrom kept 0 (r .records)) slot blankRecord ≡ recordKept kept slot (getD (r .records) slot blankRecord)
   at slot h = let n = s .slots in records-at kept slot (r .records) blankRecord (omega arith)
 
-  sound-sequence : SoundSequence (sequenceOf kept (r .records))
-  sound-sequence =
+  -- where some step stays: with none there is no edition
+  sound-sequence : some stays (heldOf r) ≡ true → SoundSequence (sequenceOf kept (r .records))
+  sound-sequence n =
       record {
         few = fits;
         blank = ap (padTo blankStep 64) (sym kept-steps);
@@ -110,13 +116,15 @@ module _ (r : Recording) (old : Sequence) (s : Sound r) where
         recorded = λ slot h.
             ap isUsed (at slot h) ∙ recorded slot h (some (isOf slot) kept) refl (some (isTakenOf slot) (heldOf r)) refl ∙ ap (some (isOf slot)) (sym kept-steps);
         unrecorded = λ slot h q. at slot h ∙ has-not kept slot (getD (r .records) slot blankRecord) (ap (some (isOf slot)) (sym kept-steps) ∙ q);
+        edition = λ _. refl;
+        no-edition = λ z. absurd (omega (arith, some-kept n));
       }
 
   pub sound-kept : SoundSequence old → SoundSequence (keptSequence r old)
   sound-kept o = go (some stays (heldOf r)) refl
     where
       go : (b : Bool) → some stays (heldOf r) ≡ b → SoundSequence (keptSequence r old)
-      go true n = subst SoundSequence (sym (keeps-some n)) sound-sequence
+      go true n = subst SoundSequence (sym (keeps-some n)) (sound-sequence n)
       go false n = subst SoundSequence (sym (keeps-none n)) o
 
   pub kept-ordered : some stays (heldOf r) ≡ true → EveryTwo InOrder (stepsOf (keptSequence r old))

@@ -10,7 +10,7 @@ use Rattle.octets.specs.{Pick.pick, Bits.hasBit}
 use Rattle.arrays.specs.Arrays.{some, those, padTo}
 use Rattle.client.specs.{Clients.slotCount, Records.blankRecord, declared.ClientRecord.ClientRecord}
 use Rattle.sequence.specs.{Sequence.mostSteps, Sequence.blankStep, declared.Step.Step, declared.Sequence.Sequence}
-use Rattle.sequence.specs.Sound.{isOf}
+use Rattle.sequence.specs.{Editions.firstEdition, Sound.isOf}
 use Rattle.recording.specs.Indication.{oneShot, done, heldOf}
 use Rattle.recording.specs.{declared.Taken.Taken, declared.Recording.Recording, declared.Kept.Kept}
 
@@ -42,8 +42,9 @@ abbrev pub recordsFrom : List Step → ℕ → List ClientRecord → List Client
 recordsFrom l slot [] = []
 recordsFrom l slot (client ∷ records) = recordKept l slot client ∷ recordsFrom l (suc slot) records
 
+-- a recording gives edition 1
 abbrev pub sequenceOf : List Step → List ClientRecord → Sequence
-sequenceOf l records = record { count = length l; steps = padTo blankStep mostSteps l; records = recordsFrom l 0 records }
+sequenceOf l records = record { count = length l; edition = firstEdition; steps = padTo blankStep mostSteps l; records = recordsFrom l 0 records }
 
 -- "A recording that keeps no step also keeps the old one."
 unfoldable pub keptSequence : Recording → Sequence → Sequence

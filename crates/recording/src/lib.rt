@@ -22,6 +22,7 @@ use message::Execution;
 use message::fields::status_number;
 use octets::has_bit;
 use octets::with_bit;
+use sequence::FIRST_EDITION;
 use sequence::MOST_STEPS;
 use sequence::Sequence;
 use sequence::Step;
@@ -444,7 +445,7 @@ impl Recording {
         self.first(slot, client, complete, e)
     }
 
-    // The sequence after the end: the steps that stay, with their clients' records; the old one where none stays.
+    // The sequence after the end: the steps that stay, with their clients' records, in edition 1; the old one where none stays.
     pub fn kept(self, old: Sequence) -> Sequence
         ensures { λ r. ⌜ r ≡ keptSequence self old ⌝ }
     {
@@ -457,6 +458,7 @@ impl Recording {
         let records = self.records;
         Sequence {
             count: kept.count,
+            edition: FIRST_EDITION,
             steps,
             records: records_of(steps, kept.count, records),
         }

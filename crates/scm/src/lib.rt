@@ -14,6 +14,7 @@ ghost use Rattle.flat.specs.Flat.{messageFrom, readingOf};
 ghost use Rattle.profile.specs.Profile.{profileOf};
 ghost use Rattle.shown.specs.Value.{shownOf, Exact};
 ghost use Rattle.sequence.specs.Sequence.{lengthOf};
+ghost use Rattle.sequence.specs.Editions.{editionOf};
 ghost use Rattle.master.specs.States.{newMaster};
 ghost use Rattle.master.specs.Call.{outcomeOf, leavesOf};
 ghost use Rattle.master.specs.Clients.{onCall, offCall, attachCall, wantCall, reportCall, lostCall};
@@ -21,6 +22,7 @@ ghost use Rattle.master.specs.Recording.{recordCall, stopCall, cancelCall, indi
 ghost use Rattle.master.specs.Playback.{startCall, abortCall, clientAbortCall, answerCall};
 ghost use Rattle.master.specs.Tick.{tickCall};
 ghost use Rattle.master.specs.Storing.{storeCall, loadCall};
+ghost use Rattle.master.specs.Editions.{editionCall};
 ghost use Rattle.master.specs.Readers.{stateOf, slotView, stepView, clientView, verifyView, progressOf, takenView, sentView};
 ghost use Rattle.scm.specs.Version.{version};
 use flat::Flat;
@@ -44,8 +46,8 @@ use rewrite::Rewritten;
 use sequence::Sequence;
 use shown::Shown;
 
-// 1.1.0: major * 1,000,000 + minor * 1,000 + patch.
-const VERSION: u32 = 1001000;
+// 2.0.0: major * 1,000,000 + minor * 1,000 + patch.
+const VERSION: u32 = 2000000;
 
 #[no_mangle]
 pub extern "C" fn scm_version() -> u32
@@ -296,6 +298,13 @@ pub extern "C" fn scm_master_load(master: Master, blocks: &[u8]) -> Outcome
     master.load(blocks)
 }
 
+#[no_mangle]
+pub extern "C" fn scm_master_edition(master: Master, edition: u32) -> Outcome
+    ensures { λ r. ⌜ r ≡ outcomeOf master (editionCall master edition) ⌝ }
+{
+    master.edition(edition)
+}
+
 // ---- The readers: each takes the part of the master that it reads, or the whole where it reads the slots.
 
 #[no_mangle]
@@ -317,6 +326,13 @@ pub extern "C" fn scm_master_step_count(sequence: Sequence) -> usize
     ensures { λ r. ⌜ r ≡ lengthOf sequence ⌝ }
 {
     sequence.len()
+}
+
+#[no_mangle]
+pub extern "C" fn scm_master_sequence_edition(sequence: Sequence) -> u32
+    ensures { λ r. ⌜ r ≡ editionOf sequence ⌝ }
+{
+    master::readers::edition_of(sequence)
 }
 
 #[no_mangle]

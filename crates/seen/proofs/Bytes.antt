@@ -31,7 +31,7 @@ use Rattle.master.specs.States.{isPlaying, ended}
 use Rattle.master.specs.Clients.{onCall, offCall, attachCall, wantCall, reportCall, lostCall}
 use Rattle.master.specs.Recording.{Hearing, recordCall, stopCall, cancelCall, interrupted, heard, indicationCall}
 use Rattle.master.specs.Playback.{startCall, abortCall, clientAbortCall, answerCall}
-use Rattle.master.specs.Storing.{storeCall, loadCall}
+use Rattle.master.specs.{Storing.storeCall, Storing.loadCall, Editions.editionCall}
 use Rattle.master.specs.Messages.{isIndication, executionIn, responseOut, receiptOut}
 use Rattle.events.specs.Events.{enable, disable, indication, answer, store, callOf, apply, Given}
 use Rattle.events.proofs.Choices.{chosen, is-false, is-true}
@@ -179,7 +179,7 @@ stores = record {
 -- ---- calls that are lent nothing
 
 nothing : LentNothing
-unfolding leavesOf onCall offCall attachCall reportCall lostCall recordCall stopCall cancelCall startCall abortCall clientAbortCall loadCall
+unfolding leavesOf onCall offCall attachCall reportCall lostCall recordCall stopCall cancelCall startCall abortCall clientAbortCall loadCall editionCall
 nothing = record {
   switching = λ m. (same _, same _);
   recording = λ m. (same _, same _, same _);
@@ -189,6 +189,7 @@ nothing = record {
   losing = λ m slot. same _;
   aborting = λ m slot msg. same _;
   loading = λ m blocks. same _;
+  setting = λ m n. same _;
 }
   where
     same : (b : Bool) → pick {X = List ℕ} b [] [] ≡ []

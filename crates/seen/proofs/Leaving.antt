@@ -14,6 +14,7 @@ use Rattle.arrays.specs.Arrays.{some, more}
 use Rattle.message.specs.declared.Execution.{Execution}
 use Rattle.client.specs.Clients.{isEnabled, isOther, noSlot, blankSlot}
 use Rattle.client.specs.declared.Client.{Client}
+use Rattle.sequence.specs.Editions.{withEdition}
 use Rattle.recording.specs.Indication.{hasOpen, isStepOf, countedRecording, heardOf}
 use Rattle.recording.specs.declared.Taken.{Taken}
 use Rattle.recording.proofs.Steps.{both}
@@ -25,12 +26,12 @@ use Rattle.master.specs.Clients.{isOver, endOf, followed, reportFrom, reportedS
 use Rattle.master.specs.Recording.{Hearing, recordCall, recordingEnded, stopped, stopCall, cancelCall, recorded, heard, indicationCall}
 use Rattle.master.specs.Playback.{startCall, abortCall, unheeded, clientAbortCall, unmatched, answerCall}
 use Rattle.master.specs.Tick.{recordingTicked, playbackTicked, ticked, tickCall}
-use Rattle.master.specs.Storing.{storeCall, loadCall}
+use Rattle.master.specs.{Storing.storeCall, Storing.loadCall, Editions.editionCall}
 use Rattle.master.specs.Messages.{executionIn}
-use Rattle.events.specs.Events.{Event, on, off, «record», stop, cancel, start, abort, attach, enable, disable, report, lost, indication, clientAbort, tick, answer, store, load, callOf, apply}
+use Rattle.events.specs.Events.{Event, on, off, «record», stop, cancel, start, abort, attach, enable, disable, report, lost, indication, clientAbort, tick, answer, store, load, edition, callOf, apply}
 use Rattle.events.proofs.Choices.{chosen, chosen-by, either, is-false, is-true}
 use Rattle.events.proofs.Calls.{after-is, same-master, either-way}
-use Rattle.events.proofs.Changes.{Near, itself, slotted, loaded, Change, rested, moved, dropped, broken, recordStarts, recordWaits, recordEnds, recordHears, recordHearsLast, recordTicks, playStarts, playTicks, playTicksLast, playHears, playHearsLast, replaced, one-of, passes, reported-number, heardIn}
+use Rattle.events.proofs.Changes.{Near, itself, slotted, loaded, inEdition, Change, rested, moved, dropped, broken, recordStarts, recordWaits, recordEnds, recordHears, recordHearsLast, recordTicks, playStarts, playTicks, playTicksLast, playHears, playHearsLast, replaced, one-of, passes, reported-number, heardIn}
 use Rattle.events.proofs.Invariant.{done-change}
 use Rattle.events.proofs.Regular.{Regular, given-regular}
 use Rattle.events.proofs.Rows.{plays}
@@ -66,7 +67,7 @@ does-settle k s h =
     let none = none-other 5 (k .slots) (subst (λ (l : List Client). (i : ℕ) → Enabled (getD l i noSlot) → getD l i noSlot .report ≡ 5) (settled-slots k) h) in
     ap (λ (x : Master). x .state) (pick-true (isAborting k && not (some (isOther 5) (k .slots))) (withState k 1) k (rw (s, none)))
 
--- ---- the sequence is changed by nothing but a stop, an E.4 and a load
+-- ---- the sequence is changed by nothing but a stop, an E.4, a load and the setting of an edition
 
 near : (m n : Master) → Near m n → n .sequence ≡ m .sequence
 near m n itself = refl
@@ -74,24 +75,25 @@ near m n (slotted i s) = refl
 
 changed :
     (m : Master) (e : Event) (n : Master) → Change m e n → (e ≡ stop → ⊥) → ((slot : ℕ) (msg out : List ℕ) → e ≡ indication slot msg out → ⊥)
-    → ((blocks : List ℕ) → e ≡ load blocks → ⊥) → n .sequence ≡ m .sequence
+    → ((blocks : List ℕ) → e ≡ load blocks → ⊥) → ((k : ℕ) → e ≡ edition k → ⊥) → n .sequence ≡ m .sequence
 unfolding ended
-changed m e n (rested x y) h k j = near m n x
-changed m e n (moved x s a b) h k j = near m _ x
-changed m e n (dropped x i y) h k j = near m _ x
-changed m e n (broken x p c) h k j = near m _ x
-changed m e n (recordStarts r) h k j = refl
-changed m e n (recordWaits i) h k j = refl
-changed m e n (recordEnds i) h k j = absurd (h refl)
-changed m e n (recordHears slot msg out i l) h k j = refl
-changed m e n (recordHearsLast slot msg out i l) h k j = absurd (k slot msg out refl)
-changed m e n (recordTicks mm out i l t) h k j = refl
-changed m e n (playStarts r) h k j = refl
-changed m e n (playTicks mm out p l t) h k j = refl
-changed m e n (playTicksLast mm out p) h k j = refl
-changed m e n (playHears slot msg out p) h k j = refl
-changed m e n (playHearsLast slot msg out s p r l) h k j = refl
-changed m e n (replaced r (loaded blocks z)) h k j = absurd (j blocks refl)
+changed m e n (rested x y) h k j w = near m n x
+changed m e n (moved x s a b) h k j w = near m _ x
+changed m e n (dropped x i y) h k j w = near m _ x
+changed m e n (broken x p c) h k j w = near m _ x
+changed m e n (recordStarts r) h k j w = refl
+changed m e n (recordWaits i) h k j w = refl
+changed m e n (recordEnds i) h k j w = absurd (h refl)
+changed m e n (recordHears slot msg out i l) h k j w = refl
+changed m e n (recordHearsLast slot msg out i l) h k j w = absurd (k slot msg out refl)
+changed m e n (recordTicks mm out i l t) h k j w = refl
+changed m e n (playStarts r) h k j w = refl
+changed m e n (playTicks mm out p l t) h k j w = refl
+changed m e n (playTicksLast mm out p) h k j w = refl
+changed m e n (playHears slot msg out p) h k j w = refl
+changed m e n (playHearsLast slot msg out s p r l) h k j w = refl
+changed m e n (replaced r (loaded blocks z)) h k j w = absurd (j blocks refl)
+changed m e n (replaced r (inEdition b z t)) h k j w = absurd (w b refl)
 
 module _ (m : Master) (r : Regular m) (other : m .state ≡ 4 → ⊥) where
   still : isPlaying m ≡ false
@@ -272,7 +274,7 @@ module _ (m : Master) (r : Regular m) (other : m .state ≡ 4 → ⊥) where
   in-playback p = absurd (true≢false (sym p ∙ still))
 
   leaves : (e : Event) → Done m e → Leaves e
-  unfolding Leaves onCall offCall attachCall wantCall reportCall lostCall recordCall stopCall cancelCall indicationCall startCall abortCall clientAbortCall answerCall tickCall storeCall loadCall unheeded unmatched reported clients.lost Followed Ticked Recorded ended
+  unfolding Leaves onCall offCall attachCall wantCall reportCall lostCall recordCall stopCall cancelCall indicationCall startCall abortCall clientAbortCall answerCall tickCall storeCall loadCall editionCall unheeded unmatched reported clients.lost Followed Ticked Recorded ended
   leaves on z h = switches-on (eqb-true _ _ (not-false _ (passed-by m on z .allowed)))
   leaves off z h = switches-off (eqb-true _ _ (not-false _ (passed-by m off z .allowed)))
   leaves «record» z h = records (eqb-true _ _ (not-false _ (passed-by m «record» z .allowed)))
@@ -306,6 +308,7 @@ module _ (m : Master) (r : Regular m) (other : m .state ≡ 4 → ⊥) where
   leaves (answer slot msg out) z h = in-playback (plays m _ (passed-by m (answer slot msg out) z .goes))
   leaves (store out) z h = absurd (h refl)
   leaves (load blocks) z h = absurd (h refl)
+  leaves (edition n) z h = absurd (h refl)
 
   from-record : InRecording m → 1 ≡ m .state → ⊥
   from-record (inl q) s = omega arith
@@ -364,12 +367,18 @@ loading : (m : Master) (blocks : List ℕ) → apply m (load blocks) .master ≡
 unfolding loadCall
 loading m blocks = either-way m (callOf m (load blocks)) (λ (n : Master). n ≡ withSequence m (n .sequence)) (λ _. refl) (λ _. refl)
 
+setting : (m : Master) (n : ℕ) → apply m (edition n) .master ≡ withSequence m (withEdition (m .sequence) (apply m (edition n) .master .sequence .edition))
+unfolding editionCall
+setting m n =
+    either-way m (callOf m (edition n)) (λ (k : Master). k ≡ withSequence m (withEdition (m .sequence) (k .sequence .edition))) (λ _. refl) (λ _. refl)
+
 pub ways : Ways
 ways = record {
   exactly = λ m g h e s. exactly m (given-regular m g) h e s;
-  keeps = λ m e h k j.
-      either-way m (callOf m e) (λ (n : Master). n .sequence ≡ m .sequence) (λ _. refl) (λ z. changed m e _ (done-change m e z) h k j);
+  keeps = λ m e h k j w.
+      either-way m (callOf m e) (λ (n : Master). n .sequence ≡ m .sequence) (λ _. refl) (λ z. changed m e _ (done-change m e z) h k j w);
   switching = switching;
   storing = storing;
   loading = loading;
+  setting = setting;
 }

@@ -39,9 +39,9 @@ use Rattle.master.specs.Clients.{isReport, reportFrom, onCall, offCall, attachC
 use Rattle.master.specs.Recording.{unready, untimely, recordCall, stopCall, cancelCall, indicationCall}
 use Rattle.master.specs.Playback.{unheeded, unmatched, startCall, abortCall, clientAbortCall, answerCall}
 use Rattle.master.specs.Tick.{tickCall}
-use Rattle.master.specs.Storing.{unstored, storeCall, loadCall}
+use Rattle.master.specs.{Storing.unstored, Storing.storeCall, Storing.loadCall, Editions.unset, Editions.editionCall}
 use Rattle.master.specs.Messages.{isAbort, isIndication, isAnswer, executionIn, replyIn}
-use Rattle.events.specs.Events.{Event, on, off, «record», stop, cancel, start, abort, attach, enable, disable, report, lost, indication, clientAbort, tick, answer, store, load, callOf, apply, Given}
+use Rattle.events.specs.Events.{Event, on, off, «record», stop, cancel, start, abort, attach, enable, disable, report, lost, indication, clientAbort, tick, answer, store, load, edition, callOf, apply, Given}
 use Rattle.events.proofs.Choices.{chosen-by}
 use Rattle.events.proofs.Calls.{number-is}
 use Rattle.events.proofs.Regular.{length-steps, given-regular}
@@ -395,6 +395,13 @@ module _ (m : Master) where
   tells-load blocks =
       first _ _ 2 _ _ (not-in 1) (λ _. first _ _ 16 _ _ (λ e. e, λ e. e) (λ _. first _ _ 17 _ _ (λ e. e, λ e. e) (λ _. done)))
 
+  -- ---- the edition
+
+  tells-edition : Given m → (n : ℕ) → TellsOf (edition n)
+  unfolding pick refusal editionCall unset
+  tells-edition g n =
+      first _ _ 2 _ _ (not-in 1) (λ _. first _ _ 7 _ _ (none-says m g) (λ _. unless _ _ 17 (either-says _ _ _ _ (equal n 1) (equal n 2))))
+
   -- ---- every call
 
   tells-all : Given m → (e : Event) → TellsOf e
@@ -416,6 +423,7 @@ module _ (m : Master) where
   tells-all g (answer slot msg out) = tells-answer g slot msg out
   tells-all g (store out) = tells-store g out
   tells-all g (load blocks) = tells-load blocks
+  tells-all g (edition n) = tells-edition g n
 
 refused-pool :
     (m : Master) (slot name : ℕ) (pool : List ℕ) → apply m (attach slot name pool) .number ≡ 6

@@ -22,8 +22,8 @@ use Rattle.sequence.specs.declared.Step.{Step}
 use Rattle.sequence.specs.declared.Sequence.{Sequence}
 use Rattle.sequence.specs.Sound.{isOf, SoundSequence}
 use Rattle.playback.specs.Pairs.{pairs}
-use Rattle.playback.specs.Verification.{Check, firstFailing, namesAgree, sameLabel, labelsAgree, isListed, isInPool, ofSequence, clientChecks, stepChecks, readyChecks, checksBy, checksOf, verifyOf}
-use Rattle.playback.proofs.Agrees.{agrees}
+use Rattle.playback.specs.Verification.{Check, Rule, firstFailing, ruleOf, sameLabel, labelsAgree, isListed, isInPool, ofSequence, clientChecks, stepChecks, readyChecks, checksBy, checksOf, verifyBy, verifyOf}
+use Rattle.playback.proofs.Agrees.{rule-parts, rule-whole, agrees}
 use Rattle.playback.proofs.Verifies.{verifies}
 use Rattle.master.specs.declared.Master.{Master}
 use Rattle.master.specs.Call.{slotAt}
@@ -115,8 +115,18 @@ module _ (m : Master) (g : Given m) where
     λ e. agrees .labels-only a b (ap (λ (x : Label). x .length) e) (ap (λ (x : Label). x .bytes) e),
   )
 
-  names-say : (slot : ℕ) → Says (namesAgree (slotAt m slot) (recordAt m slot)) (SameName m slot)
-  names-say slot = both-say _ _ _ _ (equal _ _) (where-says _ _ _ _ _ _ (both-say _ _ _ _ (equal _ _) (equal _ _)) (equal _ _) (equal _ _))
+  -- by the sequence's edition
+  abbrev rule : Rule
+  rule = ruleOf (q .edition)
+
+  names-say : (slot : ℕ) → Says (rule (slotAt m slot) (recordAt m slot)) (SameName m slot)
+  names-say slot =
+      let s : Client = slotAt m slot in
+      let c : ClientRecord = recordAt m slot in
+      let masks = both-say _ _ _ _ (equal _ _) (where-says _ _ _ _ _ _ (both-say _ _ _ _ (equal _ _) (equal _ _)) (equal _ _) (equal _ _)) in (
+        λ e. let (names, identity) = rule-parts (q .edition) s c e in let (client, master) = masks .0 names in (client, master, identity),
+        λ (client, master, identity). rule-whole (q .edition) s c (masks .1 (client, master)) identity,
+      )
 
   labels-say : (slot : ℕ) → Says (labelsAgree (slotAt m slot) (recordAt m slot)) (SameLabels m slot)
   unfolding labelsAgree
@@ -124,7 +134,7 @@ module _ (m : Master) (g : Given m) where
 
   slot-tells :
       (slot : ℕ) → slot < 8 → (d : ℕ) (rest : ℕ → Type 0) → Tells d rest
-      → Tells (fails (clientChecks namesAgree (slotAt m slot, recordAt m slot)) d) (slotChecks m slot rest)
+      → Tells (fails (clientChecks rule (slotAt m slot, recordAt m slot)) d) (slotChecks m slot rest)
   unfolding clientChecks ofSequence
   slot-tells slot l d rest t =
       let u = used slot l in
@@ -138,13 +148,13 @@ module _ (m : Master) (g : Given m) where
 
   slots-tell :
       (n slot : ℕ) → slot + n ≡ 8 → (d : ℕ) (rest : ℕ → Type 0) → Tells d rest
-      → Tells (fails (flatMap (clientChecks namesAgree) (drop slot clients)) d) (slotsFrom m slot n rest)
+      → Tells (fails (flatMap (clientChecks rule) (drop slot clients)) d) (slotsFrom m slot n rest)
   unfolding flatMap
   slots-tell zero slot e d rest t = rw (drop-of-length-le clients {i = slot} (omega (arith, e, eight-pairs m g))) t
   slots-tell (suc n) slot e d rest t =
       let l : slot < 8 = omega arith in
       let later = slots-tell n (suc slot) (omega arith) d rest t in
-      rw (drop-cons clients slot (noSlot, blankRecord) (omega (arith, l, eight-pairs m g)), pair-at m g slot l, fails-append (clientChecks namesAgree (slotAt m slot, recordAt m slot)) (flatMap (clientChecks namesAgree) (drop (suc slot) clients)) d)
+      rw (drop-cons clients slot (noSlot, blankRecord) (omega (arith, l, eight-pairs m g)), pair-at m g slot l, fails-append (clientChecks rule (slotAt m slot, recordAt m slot)) (flatMap (clientChecks rule) (drop (suc slot) clients)) d)
       (slot-tells slot l _ _ later)
 
   -- ---- 11
@@ -204,7 +214,7 @@ module _ (m : Master) (g : Given m) where
   -- ---- all of them
 
   pub verified : Tells (verifyOf (m .slots) q) (verification m)
-  unfolding pick checksBy verifyOf
+  unfolding pick checksBy verifyBy
   verified =
       subst (λ (c : ℕ). Tells c (verification m)) (sym is)
       (first _ _ 7 _ _ (equal (q .count) 0)
@@ -214,15 +224,15 @@ module _ (m : Master) (g : Given m) where
       turned true c = refl
       turned false c = refl
 
-      is : firstFailing (checksOf (m .slots) q)
+      is : firstFailing (checksOf (q .edition) (m .slots) q)
           ≡ pick (eqb (q .count) 0) 7
-          (fails (flatMap (clientChecks namesAgree) clients) (pick (some (λ (s : Step). not (isInPool (m .slots) s)) (stepsOf q)) 11 (pick (some isIdle clients) 12 0)))
+          (fails (flatMap (clientChecks rule) clients) (pick (some (λ (s : Step). not (isInPool (m .slots) s)) (stepsOf q)) 11 (pick (some isIdle clients) 12 0)))
       is =
-          failing-is (checksOf (m .slots) q)
+          failing-is (checksOf (q .edition) (m .slots) q)
           ∙ turned (eqb (q .count) 0) _
           ∙ ap (pick (eqb (q .count) 0) 7)
-          (fails-append (flatMap (clientChecks namesAgree) clients) _ 0
-          ∙ ap (fails (flatMap (clientChecks namesAgree) clients))
+          (fails-append (flatMap (clientChecks rule) clients) _ 0
+          ∙ ap (fails (flatMap (clientChecks rule) clients))
           (fails-append (flatMap (stepChecks (m .slots)) (stepsOf q)) _ 0
           ∙ same-fail (stepChecks (m .slots)) (λ (s : Step). not (isInPool (m .slots) s)) 11 step-fail (stepsOf q) _
           ∙ ap (pick (some (λ (s : Step). not (isInPool (m .slots) s)) (stepsOf q)) 11) (same-fail readyChecks isIdle 12 ready-fail clients 0)))

@@ -1,5 +1,5 @@
--- 01, "Numbers a call gives back", and 02, request 1: what each call gives each number for, in the words of the table and of the rules, and that it gives
--- it exactly then.
+-- 01, "Numbers a call gives back", and 02, requests 1, 2 and 11: what each call gives each number for, in the words of the table and of the rules, and that
+-- it gives it exactly then.
 -- "Where several apply: 1, 4, 3, 2, then the rest in the order that the call's own rule gives."
 use Prim.Native.Nat.{ℕ, zero, suc, _+_, _*_, _/_, _%_, _≤_, _<_}
 use mathlib.Core.Path.{_≡_}
@@ -16,7 +16,8 @@ use Rattle.sequence.specs.{Sequence.blankStep, declared.Step.Step}
 use Rattle.store.specs.{Blocks.isDamaged, Loaded.isFaulty}
 use Rattle.playback.specs.State.{blankSent}
 use Rattle.master.specs.{declared.Master.Master, Call.slotAt}
-use Rattle.events.specs.Events.{Event, on, off, «record», stop, cancel, start, abort, attach, enable, disable, report, lost, indication, clientAbort, tick, answer, store, load, apply, Given, recordAt}
+use Rattle.events.specs.Events.{Event, on, off, «record», stop, cancel, start, abort, attach, enable, disable, report, lost, indication, clientAbort, tick, answer, store, load, edition, apply, Given, recordAt}
+use Rattle.events.specs.Editions.{SameIdentity}
 use Rattle.seen.specs.Words.{nth, Enabled, InRecording}
 
 abbrev pub Not : Type 0 → Type 0
@@ -117,13 +118,15 @@ module _ (m : Master) where
   abbrev pub BothOwn : ℕ → Type 0
   BothOwn slot = (recordAt m slot .master ≡ recordAt m slot .name) × (slotAt m slot .profile .master ≡ slotAt m slot .name)
 
-  -- "NAMEs agree if they agree on every bit set in the loaded pool's mask."; "where .., the mask applies to both. Otherwise all 64 bits count"
+  -- "NAMEs agree if they agree on every bit set in the loaded pool's mask."; "where .., the mask applies to both. Otherwise all 64 bits count"; 02, request
+  -- 11: in edition 2 identity numbers "agree too, no matter what the mask says"
   abbrev pub SameName : ℕ → Type 0
   SameName slot =
       let s : Client = slotAt m slot in
       let c : ClientRecord = recordAt m slot in
       Masked slot (s .name) (c .name)
       × ((BothOwn slot → Masked slot (s .profile .master) (c .master)) × (Not (BothOwn slot) → s .profile .master ≡ c .master))
+      × (m .sequence .edition ≡ 2 → SameIdentity m slot)
 
   -- "both labels"
   abbrev pub SameLabels : ℕ → Type 0
@@ -202,6 +205,8 @@ module _ (m : Master) where
   numbersOf (store out) = tells 1 (TooFew out) (tells 2 (Not (m .state ≡ 1)) (tells 7 (m .sequence .count ≡ 0) accepts))
   -- "16 the check of a whole lent block, 17 counts or fields out of range .., after number 2, in that order"
   numbersOf (load blocks) = tells 2 (Not (m .state ≡ 1)) (tells 16 (isDamaged blocks ≡ true) (tells 17 (isFaulty blocks ≡ true) accepts))
+  -- 02, request 11: "an unknown edition gives 17"; with no sequence 7
+  numbersOf (edition n) = tells 2 (Not (m .state ≡ 1)) (tells 7 (m .sequence .count ≡ 0) (tells 17 (Not ((n ≡ 1) ⊎ (n ≡ 2))) accepts))
 
 pub record Numbers : Type 0 where
   pub exactly : (m : Master) → Given m → (e : Event) (n : ℕ) → (apply m e .number ≡ n) ↔ numbersOf m e n

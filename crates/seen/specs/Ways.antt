@@ -4,9 +4,10 @@ use mathlib.Core.Path.{_≡_}
 use mathlib.Core.Logic.{_↔_}
 use mathlib.Core.List.{List}
 use lib.ListN.{getD}
+use Rattle.sequence.specs.Editions.{withEdition}
 use Rattle.recording.specs.{State.blankTaken, declared.Taken.Taken}
 use Rattle.master.specs.{declared.Master.Master, Call.slotAt, States.withSequence}
-use Rattle.events.specs.Events.{Event, on, off, «record», stop, cancel, start, report, lost, indication, tick, store, load, apply, Given}
+use Rattle.events.specs.Events.{Event, on, off, «record», stop, cancel, start, report, lost, indication, tick, store, load, edition, apply, Given}
 use Rattle.seen.specs.Words.{Done, nth, Enabled, InRecording}
 
 -- step i of the recording, counted from 0
@@ -68,12 +69,15 @@ pub record Ways : Type 0 where
   pub exactly :
       (m : Master) → Given m → (m .state ≡ 4 → ⊥) → (e : Event) (s : ℕ)
       → ((apply m e .master .state ≡ s) × (s ≡ m .state → ⊥)) ↔ (Done m e × Way m e s)
-  -- ".. and keeps the old sequence": only a stop, an E.4 and a load can change the sequence
+  -- ".. and keeps the old sequence": only a stop, an E.4, a load and the setting of an edition can change the sequence
   pub keeps :
       (m : Master) (e : Event) → (e ≡ stop → ⊥) → ((slot : ℕ) (msg out : List ℕ) → e ≡ indication slot msg out → ⊥)
-      → ((blocks : List ℕ) → e ≡ load blocks → ⊥) → apply m e .master .sequence ≡ m .sequence
+      → ((blocks : List ℕ) → e ≡ load blocks → ⊥) → ((n : ℕ) → e ≡ edition n → ⊥) → apply m e .master .sequence ≡ m .sequence
   -- on and off: "Neither changes anything else."
   pub switching : (m : Master) → SameRest m (apply m on .master) × SameRest m (apply m off .master)
   -- 02, request 1: a store changes nothing, and a load nothing but the sequence
   pub storing : (m : Master) (out : List ℕ) → apply m (store out) .master ≡ m
   pub loading : (m : Master) (blocks : List ℕ) → apply m (load blocks) .master ≡ withSequence m (apply m (load blocks) .master .sequence)
+  -- 02, request 11: setting an edition changes nothing but the sequence's edition
+  pub setting :
+      (m : Master) (n : ℕ) → apply m (edition n) .master ≡ withSequence m (withEdition (m .sequence) (apply m (edition n) .master .sequence .edition))

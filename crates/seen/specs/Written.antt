@@ -7,7 +7,7 @@ use lib.ListN.{getD, drop}
 use Rattle.sequence.specs.Sequence.{blankStep}
 use Rattle.store.specs.Stored.{storeBytes, storedIn}
 use Rattle.master.specs.{declared.Master.Master, Call.slotAt, Messages.executionIn, Recording.heard}
-use Rattle.events.specs.Events.{Event, on, off, «record», stop, cancel, start, abort, attach, enable, disable, report, lost, indication, clientAbort, answer, store, load, apply, lentAfter, Given}
+use Rattle.events.specs.Events.{Event, on, off, «record», stop, cancel, start, abort, attach, enable, disable, report, lost, indication, clientAbort, answer, store, load, edition, apply, lentAfter, Given}
 use Rattle.seen.specs.Words.{nth, Bytes, Done, InRecording}
 
 -- eight bytes stand before what the lent bytes held after their first eight
@@ -68,6 +68,7 @@ pub record LentNothing : Type 0 where
   pub losing : (m : Master) (slot : ℕ) → lentAfter m (lost slot) ≡ []
   pub aborting : (m : Master) (slot : ℕ) (msg : List ℕ) → lentAfter m (clientAbort slot msg) ≡ []
   pub loading : (m : Master) (blocks : List ℕ) → lentAfter m (load blocks) ≡ []
+  pub setting : (m : Master) (n : ℕ) → lentAfter m (edition n) ≡ []
 
 pub record Written : Type 0 where
   pub orders : Orders

@@ -22,9 +22,9 @@ blankStep = record { slot = 0; function = 0; state = 0; distance = 0; value = 0;
 abbrev pub byDistance : Step → Bool
 byDistance s = not (eqb (s .distance) 0)
 
--- no sequence yet
+-- no sequence yet, and no edition
 unfoldable pub blankSequence : Sequence
-blankSequence = record { count = 0; steps = replicate mostSteps blankStep; records = replicate slotCount blankRecord }
+blankSequence = record { count = 0; edition = 0; steps = replicate mostSteps blankStep; records = replicate slotCount blankRecord }
 
 abbrev pub lengthOf : Sequence → ℕ
 lengthOf q = min (q .count) mostSteps

@@ -1,5 +1,5 @@
--- What blocks say that are accepted: each field in its range, exactly the slots of which there is a step with a record, and the counts and the length
--- of the blocks.
+-- What blocks say that are accepted: each field in its range, exactly the slots of which there is a step with a record, and the counts, the
+-- edition and the length of the blocks.
 use Prim.Native.Nat.{ℕ, _+_, _-_, _*_, _≤_, _<_, min}
 use mathlib.Core.Path.{_≡_, refl, sym, ap, subst, _∙_}
 use mathlib.Core.Bool.{Bool, true, false, not}
@@ -17,6 +17,7 @@ use Rattle.arrays.specs.{Arrays.some, Arrays.padTo, Every.Every}
 use Rattle.arrays.proofs.Every.{none-passes, every-weaken}
 use Rattle.arrays.proofs.Pad.{pad-take}
 use Rattle.sequence.specs.Sequence.{blankStep, lengthOf, stepsOf}
+use Rattle.sequence.specs.Editions.{isEdition}
 use Rattle.sequence.specs.Sound.{isOf, SoundSequence}
 use Rattle.sequence.specs.declared.Step.{Step}
 use Rattle.sequence.specs.declared.Sequence.{Sequence}
@@ -24,7 +25,7 @@ use Rattle.store.specs.Below.{someBelow}
 use Rattle.store.specs.Blocks.{isDamaged, blocksFor, clientPlace, stepPlace}
 use Rattle.store.specs.Fields.{stepRight}
 use Rattle.store.specs.Stored.{slotsIn, storeBytes}
-use Rattle.store.specs.Loaded.{byteAt, clientAt, clientRight, stepAt, clientCount, stepCount, clientSlot, stepSlot, stepsTo, sequenceIn}
+use Rattle.store.specs.Loaded.{byteAt, clientAt, clientRight, stepAt, clientCount, stepCount, editionIn, clientSlot, stepSlot, stepsTo, sequenceIn}
 use Rattle.store.specs.Loaded.{countsRight, areClientsRight, areStepsRight, isFillBlank, isNoSlotTwice, hasEachRecord, hasEachStep, reasonsFor, isFaulty, loadNumber, loadedOf}
 use Rattle.store.specs.Legal.{RightLabel, RightRecord, RightStep, Legal}
 use Rattle.store.specs.Promises.{Accepted}
@@ -101,6 +102,7 @@ module _ (s : List ℕ) where
   -- what is asked of the blocks
   pub record Faultless : Type 0 where
     pub counts : countsRight c n ≡ true
+    pub edition : isEdition (editionIn s) ≡ true
     pub blocks : length s ≡ 512 * blocksFor c n
     pub clients : areClientsRight s c n ≡ true
     pub steps : areStepsRight s c n ≡ true
@@ -115,13 +117,14 @@ module _ (s : List ℕ) where
       let h = none-passes (λ reason. reason) (reasonsFor s c n) e in
       record {
         counts = not-false _ (h .0);
-        blocks = eqb-true _ _ (not-false _ (h .1 .0));
-        clients = not-false _ (h .1 .1 .0);
-        steps = not-false _ (h .1 .1 .1 .0);
-        fill = not-false _ (h .1 .1 .1 .1 .0);
-        once = not-false _ (h .1 .1 .1 .1 .1 .0);
-        each-record = not-false _ (h .1 .1 .1 .1 .1 .1 .0);
-        each-step = not-false _ (h .1 .1 .1 .1 .1 .1 .1 .0);
+        edition = not-false _ (h .1 .0);
+        blocks = eqb-true _ _ (not-false _ (h .1 .1 .0));
+        clients = not-false _ (h .1 .1 .1 .0);
+        steps = not-false _ (h .1 .1 .1 .1 .0);
+        fill = not-false _ (h .1 .1 .1 .1 .1 .0);
+        once = not-false _ (h .1 .1 .1 .1 .1 .1 .0);
+        each-record = not-false _ (h .1 .1 .1 .1 .1 .1 .1 .0);
+        each-step = not-false _ (h .1 .1 .1 .1 .1 .1 .1 .1 .0);
       }
 
   -- number 0 has none of the reasons for 17, and gives the sequence that the blocks say
@@ -202,6 +205,8 @@ module _ (s : List ℕ) where
           slots = records-length s c;
           recorded = λ x h. record-used s c x h ∙ as-steps x;
           unrecorded = λ x h e. record-none s c x h (as-steps x ∙ e);
+          edition = λ _. f .edition;
+          no-edition = λ z. absurd (omega (arith, in-counts .2));
         }
 
     legal : Legal q
@@ -228,8 +233,20 @@ module _ (s : List ℕ) where
     unfolding pick storeBytes
     blocks-are = let m = in-counts .2 in rw (clients-are, length-is, ne-eqb n 0 (λ e. omega arith)) (f .blocks)
 
+    edition-is : q .edition ≡ editionIn s
+    unfolding sequenceIn
+    edition-is = refl
+
     is-accepted : Accepted s q
-    is-accepted = record { legal = legal; fields = every-weaken right-step (stepsOf q) (legal .steps); clients = clients-are; steps = length-is; blocks = blocks-are }
+    is-accepted =
+        record {
+          legal = legal;
+          fields = every-weaken right-step (stepsOf q) (legal .steps);
+          clients = clients-are;
+          steps = length-is;
+          edition = edition-is;
+          blocks = blocks-are;
+        }
 
 pub accepted : (s : List ℕ) → loadedOf s .number ≡ completed → Accepted s (loadedOf s .sequence)
 accepted s e = subst (Accepted s) (sym (said s e)) (is-accepted s (faultless s (no-fault s e)))

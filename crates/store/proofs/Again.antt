@@ -1,6 +1,6 @@
 -- What is stored is loaded again, with the client records in any order: of a legal sequence each field is read back from its blocks, no reason for a
 -- refusal is there, and so the sequence.
-use Prim.Native.Nat.{ℕ, zero, suc, _*_, _≤_, _<_}
+use Prim.Native.Nat.{ℕ, zero, suc, _-_, _*_, _≤_, _<_}
 use native.Mathlib.Omega.{arith}
 use mathlib.Core.Path.{_≡_, refl, sym, ap, _∙_}
 use mathlib.Core.Bool.{Bool, true, false, not}
@@ -9,26 +9,28 @@ use lib.Dec.{eqb}
 use lib.ListN.{length, take, getD, length-map}
 use lib.Seq.{ext-getD, take-suc, take-length}
 use borrow.Author.Tests.{eq-eqb, ne-eqb, eqb-true, le-leb}
-use Rattle.octets.specs.{Pick.pick, Octets.bytesOf}
+use Rattle.octets.specs.{Pick.pick, Octets.numberAt, Octets.bytesOf}
 use Rattle.octets.specs.Numbers.{completed}
 use Rattle.octets.proofs.{Laws.length-bytes}
 use Rattle.arrays.specs.Arrays.{some}
 use Rattle.arrays.proofs.Every.{every-at, every-map, every-weaken, pairs-at}
 use Rattle.client.specs.{Clients.slotCount, Records.blankRecord}
 use Rattle.sequence.specs.Sequence.{mostSteps, blankStep, lengthOf, stepsOf}
+use Rattle.sequence.specs.Editions.{isEdition}
 use Rattle.sequence.specs.Sound.{isOf}
 use Rattle.sequence.specs.{declared.Step.Step, declared.Sequence.Sequence}
 use Rattle.store.specs.Blocks.{blockBytes, blocksFor, clientPlace, stepPlace}
 use Rattle.store.specs.Fields.{stepRight}
 use Rattle.store.specs.Stored.{clientBytes, stepBytes, slotsIn, contentsOf, storedOf, storeBytes}
-use Rattle.store.specs.Loaded.{clientAt, clientRight, clientBlank, stepAt, stepBlank, clientCount, stepCount, clientSlot, stepSlot, recordsTo, stepsTo, sequenceIn, countsRight, areClientsRight, areStepsRight, isFillBlank, isNoSlotTwice, hasEachRecord, hasEachStep, isFaulty, loadNumber, loadedOf}
+use Rattle.store.specs.Loaded.{clientAt, clientRight, clientBlank, stepAt, stepBlank, clientCount, stepCount, editionIn, clientSlot, stepSlot, recordsTo, stepsTo, sequenceIn, countsRight, areClientsRight, areStepsRight, isFillBlank, isNoSlotTwice, hasEachRecord, hasEachStep, isFaulty, loadNumber, loadedOf}
 use Rattle.store.specs.declared.Loaded.{Loaded}
 use Rattle.store.specs.Legal.{Legal, FitsStep, FitsRecord, Fits}
 use Rattle.store.specs.Whole.{clientsBy, storedBy, Orders}
 use Rattle.store.proofs.Below.{every-below, none-below, some-below}
 use Rattle.store.proofs.Lists.{at-some, map-at}
 use Rattle.store.proofs.Stands.{At, at-left, at-right, at-number}
-use Rattle.store.proofs.Items.{client-length, step-length}
+use Rattle.store.proofs.Items.{counted, counted-length, client-length, step-length}
+use Rattle.store.proofs.Fields.{edition-parts}
 use Rattle.store.proofs.Contents.{stores-some}
 use Rattle.store.proofs.Records.{hasSlot, recordTo, records-length, record-none, record-some}
 use Rattle.store.proofs.Recorded.{recordIn, length-steps, itself, few-slots, recorded-by, recorded-at, among, step-among, some-slot}
@@ -57,23 +59,38 @@ module _ (q : Sequence) (L : Legal q) (slots : List ℕ) (O : Orders slots (slot
         wide = every-map stepBytes _ (stepsOf q) (every-weaken (λ t h. step-length t) (stepsOf q) (L .steps));
       }
 
-  written : (s : List ℕ) → s ≡ storedBy slots q → Written s (length slots) (length (stepsOf q)) (clientsBy slots q) (map stepBytes (stepsOf q))
+  written : (s : List ℕ) → s ≡ storedBy slots q → Written s (length slots) (length (stepsOf q)) (q .edition) (clientsBy slots q) (map stepBytes (stepsOf q))
   unfolding storedBy
   written s e = record { clients = client-things; steps = step-things; bytes = e }
 
 module _ (q : Sequence) (L : Legal q) (F : Fits q) (slots : List ℕ) (O : Orders slots (slotsIn (q .records))) (s : List ℕ) (e : s ≡ storedBy slots q) where
-  -- ---- the counts
+  -- ---- the counts and the edition
 
   few-steps : length (stepsOf q) ≤ mostSteps
   few-steps = omega (arith, length-steps q L, L .sound .few)
 
+  at-counts : At s 0 (counted (length slots) (length (stepsOf q)))
+  at-counts = at-left (counted (length slots) (length (stepsOf q))) (bytesOf 4 (q .edition - 1)) (head-stands (written q L slots O s e))
+
   clients-read : clientCount s ≡ length slots
-  clients-read = at-number 4 (length slots) (at-left (bytesOf 4 (length slots)) (bytesOf 4 (length (stepsOf q))) (head-stands (written q L slots O s e))) (omega (arith, few-slots q L slots O))
+  clients-read = at-number 4 (length slots) (at-left (bytesOf 4 (length slots)) (bytesOf 4 (length (stepsOf q))) at-counts) (omega (arith, few-slots q L slots O))
 
   steps-read : stepCount s ≡ length (stepsOf q)
   steps-read =
       at-number 4 (length (stepsOf q))
-      (at-right (bytesOf 4 (length slots)) (bytesOf 4 (length (stepsOf q))) 4 (length-bytes 4 (length slots)) (head-stands (written q L slots O s e))) (omega (arith, few-steps))
+      (at-right (bytesOf 4 (length slots)) (bytesOf 4 (length (stepsOf q))) 4 (length-bytes 4 (length slots)) at-counts) (omega (arith, few-steps))
+
+  edition-right : isEdition (q .edition) ≡ true
+  edition-right = L .sound .edition (L .some-step)
+
+  edition-read : editionIn s ≡ q .edition
+  edition-read =
+      let parts = edition-parts (q .edition) edition-right in
+      let less : numberAt 4 s 8 ≡ q .edition - 1 =
+      at-number 4 (q .edition - 1)
+      (at-right (counted (length slots) (length (stepsOf q))) (bytesOf 4 (q .edition - 1)) 8 (counted-length (length slots) (length (stepsOf q))) (head-stands (written q L slots O s e)))
+      (omega arith) in
+      omega arith
 
   counts-right : countsRight (length slots) (length (stepsOf q)) ≡ true
   counts-right =
@@ -164,6 +181,8 @@ module _ (q : Sequence) (L : Legal q) (F : Fits q) (slots : List ℕ) (O : Order
         clients-read,
         steps-read,
         counts-right,
+        edition-read,
+        edition-right,
         eq-eqb (length s) (blockBytes * blocksFor (length slots) (length (stepsOf q))) (length-written (written q L slots O s e)),
         clients-right,
         steps-right,
@@ -206,6 +225,7 @@ module _ (q : Sequence) (L : Legal q) (F : Fits q) (slots : List ℕ) (O : Order
       rw (
         clients-read,
         steps-read,
+        edition-read,
         steps-to (length (stepsOf q)) (omega arith),
         take-length (stepsOf q),
         ← L .sound .blank,

@@ -1,13 +1,16 @@
--- What is asked of the counts, of a label, of a client record and of a step, one by one.
-use Prim.Native.Nat.{ℕ, _+_, _≤_, _<_}
-use mathlib.Core.Path.{_≡_, refl}
-use mathlib.Core.Bool.{Bool, true, _&&_}
+-- What is asked of the counts, of the edition, of a label, of a client record and of a step, one by one.
+use Prim.Native.Nat.{ℕ, zero, suc, _+_, _≤_, _<_}
+use native.Mathlib.Numerals.{add-one}
+use native.Mathlib.Omega.{arith}
+use mathlib.Core.Path.{_≡_, refl, sym, _∙_}
+use mathlib.Core.Bool.{Bool, true, _&&_, true≢false}
 use mathlib.Core.List.{List}
 use lib.Dec.{leb, ltb}
-use borrow.Author.Tests.{leb-true, ltb-true}
+use borrow.Author.Tests.{leb-true, ltb-true, le-ltb, ne-eqb}
 use Rattle.octets.proofs.Tests.{both}
 use Rattle.pool.specs.{Ranges.labelRight, StageTwo.characterRight}
 use Rattle.sequence.specs.Sequence.{byDistance}
+use Rattle.sequence.specs.Editions.{isEdition}
 use Rattle.sequence.specs.declared.Step.{Step}
 use Rattle.store.specs.Below.{everyBelow}
 use Rattle.store.specs.Blocks.{clientPlace}
@@ -25,6 +28,19 @@ count-parts c n h =
 -- no more than 8 and 64
 pub counts : (c n : ℕ) → countsRight c n ≡ true → (c ≤ 8) × (n ≤ 64)
 counts c n h = let parts = count-parts c n h in (parts .1, parts .3)
+
+-- "an unknown edition": of the numbers that may stand in the block only 0 and 1 are known
+pub edition-known : (less : ℕ) → isEdition (less + 1) ≡ ltb less 2
+edition-known zero = refl
+edition-known (suc zero) = refl
+edition-known (suc (suc n)) =
+    rw (ne-eqb (suc (suc n) + 1) 1 (λ e. omega arith), ne-eqb (suc (suc n) + 1) 2 (λ e. omega arith), le-ltb (suc (suc n)) 2 (omega arith))
+
+pub edition-parts : (edition : ℕ) → isEdition edition ≡ true → (1 ≤ edition) × (edition ≤ 2)
+edition-parts zero h = absurd (true≢false (sym h))
+edition-parts (suc less) h =
+    let small : less < 2 = ltb-true less 2 (sym (edition-known less) ∙ rw (add-one less) h) in
+    (omega arith, omega arith)
 
 pub label-most : (n : ℕ) → labelRight n ≡ true → n ≤ 63
 label-most n h = leb-true n 63 (both (leb 1 n) (leb n 63) h .1)

@@ -1,5 +1,5 @@
--- The bytes of a client record and of a step: their parts, how long they are, and what storing them part after part gives.
-use Prim.Native.Nat.{ℕ, _+_}
+-- The bytes of the first block, of a client record and of a step: their parts, how long they are, and what storing them part after part gives.
+use Prim.Native.Nat.{ℕ, _+_, _-_}
 use mathlib.Core.Path.{_≡_, refl, sym, ap, _∙_}
 use mathlib.Core.List.{List, [], _∷_, _++_}
 use lib.ListN.{length, set, length-append}
@@ -8,8 +8,28 @@ use Rattle.octets.specs.Octets.{bytesOf}
 use Rattle.octets.proofs.Laws.{length-bytes}
 use Rattle.client.specs.declared.ClientRecord.{ClientRecord}
 use Rattle.sequence.specs.declared.Step.{Step}
-use Rattle.store.specs.Stored.{clientBytes, stepBytes}
+use Rattle.store.specs.Stored.{headOf, clientBytes, stepBytes}
 use Rattle.store.proofs.Sets.{then-sets}
+
+-- ---- the first block: up to the edition
+
+abbrev pub counted : ℕ → ℕ → List ℕ
+counted c n = bytesOf 4 c ++ bytesOf 4 n
+
+module _ (c n : ℕ) where
+  pub counted-length : length (counted c n) ≡ 8
+  counted-length = simp (length-append, length-bytes)
+
+  module _ (edition : ℕ) where
+    pub head-length : length (headOf c n edition) ≡ 12
+    head-length = simp (length-append, length-bytes)
+
+    -- its numbers, one after the other
+    pub head-stored : (out : List ℕ) → sets (sets (sets out 0 (bytesOf 4 c)) 4 (bytesOf 4 n)) 8 (bytesOf 4 (edition - 1)) ≡ sets out 0 (headOf c n edition)
+    head-stored out =
+        sym
+        (then-sets out 0 8 (counted c n) (bytesOf 4 (edition - 1)) counted-length
+        ∙ ap (λ (l : List ℕ). sets l 8 (bytesOf 4 (edition - 1))) (then-sets out 0 4 (bytesOf 4 c) (bytesOf 4 n) (length-bytes 4 c)))
 
 -- ---- a client record: up to its NAME, up to the master's NAME, up to the version label, up to the configuration label
 

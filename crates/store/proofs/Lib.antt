@@ -21,6 +21,7 @@ pub mod ReadBack
 pub mod Places
 pub mod Again
 pub mod Octets
+pub mod Before
 pub mod Example
 pub mod Found
 pub mod Rewritten

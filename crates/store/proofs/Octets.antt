@@ -1,5 +1,5 @@
 -- Every byte of the stored blocks is below 256.
-use Prim.Native.Nat.{ℕ, zero, suc, _+_, _/_, _<_}
+use Prim.Native.Nat.{ℕ, zero, suc, _+_, _-_, _/_, _<_}
 use native.Mathlib.Omega.{arith}
 use mathlib.Core.Path.{_≡_}
 use mathlib.Core.Bool.{true}
@@ -17,7 +17,7 @@ use Rattle.store.specs.Fields.{stepRight}
 use Rattle.store.specs.Stored.{clientBytes, stepBytes, slotsIn, clientsIn, joined, groups, contentsOf, filled, sealed, sealedFrom, storedOf}
 use Rattle.store.specs.Legal.{RightRecord, Legal, FitsStep, IsByte, FitsRecord, Fits}
 use Rattle.store.proofs.Lists.{every-append, every-take, every-drop, every-pad, every-two}
-use Rattle.store.proofs.Items.{first, named, names, version, fields, marked, valued, zeros}
+use Rattle.store.proofs.Items.{counted, first, named, names, version, fields, marked, valued, zeros}
 use Rattle.store.proofs.Fields.{label-most, step-parts}
 use Rattle.store.proofs.Recorded.{recordIn, recorded}
 
@@ -100,8 +100,9 @@ module _ (q : Sequence) (L : Legal q) (F : Fits q) where
   stored-bytes =
       let c : ℕ = length (slotsIn (q .records)) in
       let n : ℕ = length (stepsOf q) in
+      let less : ℕ = q .edition - 1 in
       let contents : Every Octets (contentsOf q) = (
-        every-append IsByte (bytesOf 4 c) (bytesOf 4 n) (number-bytes 4 c) (number-bytes 4 n),
+        every-append IsByte (counted c n) (bytesOf 4 less) (every-append IsByte (bytesOf 4 c) (bytesOf 4 n) (number-bytes 4 c) (number-bytes 4 n)) (number-bytes 4 less),
         every-append Octets (groups (clientBlocks c) 3 (clientsIn (q .records))) (groups (stepBlocks n) 31 (map stepBytes (stepsOf q)))
             (group-bytes (clientBlocks c) 3 (clientsIn (q .records)) clients-bytes)
             (group-bytes (stepBlocks n) 31 (map stepBytes (stepsOf q)) steps-bytes),

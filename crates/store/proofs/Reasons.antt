@@ -1,7 +1,7 @@
 -- From the tests that loading makes to the reasons for 17, and to what is loaded.
 use Prim.Native.Nat.{ℕ, _*_, _<_}
 use mathlib.Core.Path.{_≡_, refl, sym, ap, subst, _∙_}
-use mathlib.Core.Bool.{Bool, true, false, not, _&&_, and-true, and-false, and-assoc}
+use mathlib.Core.Bool.{Bool, true, false, not, _&&_, and-true, and-false}
 use mathlib.Core.List.{List, [], _∷_, map}
 use lib.Dec.{eqb}
 use lib.ListN.{length, getD}
@@ -14,11 +14,12 @@ use Rattle.arrays.specs.Arrays.{some, padTo}
 use Rattle.client.specs.Records.{isUsed, blankRecord}
 use Rattle.client.specs.declared.ClientRecord.{ClientRecord}
 use Rattle.sequence.specs.Sequence.{blankStep, blankSequence}
+use Rattle.sequence.specs.Editions.{isEdition}
 use Rattle.sequence.specs.{declared.Step.Step, declared.Sequence.Sequence}
 use Rattle.store.specs.Below.{everyBelow, someBelow}
 use Rattle.store.specs.Blocks.{isDamaged, blocksFor, clientPlace, stepPlace}
 use Rattle.store.specs.Fields.{stepRight}
-use Rattle.store.specs.Loaded.{clientRight, clientBlank, stepAt, stepBlank, clientSlot, stepSlot, clientCount, stepCount, recordsTo, stepsTo}
+use Rattle.store.specs.Loaded.{clientRight, clientBlank, stepAt, stepBlank, clientSlot, stepSlot, clientCount, stepCount, editionIn, recordsTo, stepsTo}
 use Rattle.store.specs.Loaded.{countsRight, restBlank, areClientsRight, areStepsRight, isFillBlank, isNoSlotTwice, hasEachRecord, hasEachStep}
 use Rattle.store.specs.Loaded.{isFaulty, sequenceIn, loadNumber, loadedOf}
 use Rattle.store.specs.Taken.{clientTaken, stepTaken}
@@ -106,15 +107,16 @@ no-reason [] = refl
 no-reason (true ∷ l) = no-reason l
 no-reason (false ∷ l) = refl
 
--- the first two conditions
-module _ (a b : Bool) (l : List Bool) where
-  two-fail : (a && b) ≡ false → allOf (a ∷ b ∷ l) ≡ false
-  unfolding allOf
-  two-fail e = sym (and-assoc a b (allOf l)) ∙ rw e
+-- the first three conditions, of which loading asks the second last
+three-fail : (a b c : Bool) (l : List Bool) → (a && c && b) ≡ false → allOf (a ∷ b ∷ c ∷ l) ≡ false
+unfolding allOf
+three-fail false b c l e = refl
+three-fail true false c l e = refl
+three-fail true true c l e = rw (sym (and-true c) ∙ e)
 
-  two-hold : a ≡ true → b ≡ true → allOf (a ∷ b ∷ l) ≡ allOf l
-  unfolding allOf
-  two-hold e f = rw (e, f)
+three-hold : (a b c : Bool) (l : List Bool) → a ≡ true → b ≡ true → c ≡ true → allOf (a ∷ b ∷ c ∷ l) ≡ allOf l
+unfolding allOf
+three-hold a b c l e f g = rw (e, f, g)
 
 -- the others in the order in which loading asks them: of the client records, of the steps, of the rest
 regroup :
@@ -133,24 +135,24 @@ module _ (s : List ℕ) (c n : ℕ) (clients : c ≡ clientCount s) (steps : n �
   later : List Bool
   later = areClientsRight s c n ∷ areStepsRight s c n ∷ isFillBlank s c n ∷ isNoSlotTwice s c n ∷ hasEachRecord s c n ∷ hasEachStep s c n ∷ []
 
-  faulty-is : isFaulty s ≡ not (allOf (countsRight c n ∷ eqb (length s) (512 * blocksFor c n) ∷ later))
+  faulty-is : isFaulty s ≡ not (allOf (countsRight c n ∷ isEdition (editionIn s) ∷ eqb (length s) (512 * blocksFor c n) ∷ later))
   unfolding isFaulty later
-  faulty-is = rw (← clients, ← steps) (no-reason (countsRight c n ∷ eqb (length s) (512 * blocksFor c n) ∷ later))
+  faulty-is = rw (← clients, ← steps) (no-reason (countsRight c n ∷ isEdition (editionIn s) ∷ eqb (length s) (512 * blocksFor c n) ∷ later))
 
-  -- counts out of range, or blocks missing or left over
-  pub shape-wrong : (countsRight c n && eqb (length s) (512 * blocksFor c n)) ≡ false → isFaulty s ≡ true
-  shape-wrong e = faulty-is ∙ ap not (two-fail (countsRight c n) (eqb (length s) (512 * blocksFor c n)) later e)
+  -- counts out of range, blocks missing or left over, or an unknown edition
+  pub head-wrong : (countsRight c n && eqb (length s) (512 * blocksFor c n) && isEdition (editionIn s)) ≡ false → isFaulty s ≡ true
+  head-wrong e = faulty-is ∙ ap not (three-fail (countsRight c n) (isEdition (editionIn s)) (eqb (length s) (512 * blocksFor c n)) later e)
 
-  -- where neither is so, what the loops find
+  -- where none is so, what the loops find
   loops-find :
-      countsRight c n ≡ true → length s ≡ 512 * blocksFor c n
+      countsRight c n ≡ true → isEdition (editionIn s) ≡ true → length s ≡ 512 * blocksFor c n
       → isFaulty s ≡ not (clientsTaken s c && stepsTaken s c n (recordsTo s c) && (restsBlank s c n && hasEachStep s c n))
   unfolding later allOf
-  loops-find right whole =
+  loops-find right known whole =
       rw (clients-taken s c n, steps-taken s c n)
       (faulty-is
       ∙ ap not
-      (two-hold (countsRight c n) (eqb (length s) (512 * blocksFor c n)) later right (eq-eqb (length s) (512 * blocksFor c n) whole)
+      (three-hold (countsRight c n) (isEdition (editionIn s)) (eqb (length s) (512 * blocksFor c n)) later right known (eq-eqb (length s) (512 * blocksFor c n) whole)
       ∙ regroup (areClientsRight s c n) (clientsBlank s c) (isNoSlotTwice s c n) (areStepsRight s c n) (stepsBlank s c n) (hasEachRecord s c n)
       (restsBlank s c n) (hasEachStep s c n)))
 
@@ -163,9 +165,10 @@ loaded : (r : Loaded) (number : ℕ) (sequence : Sequence) → r .number ≡ num
 loaded r number sequence e f = rw (← e, ← f)
 
 made :
-    (q : Sequence) (count : ℕ) (steps : List Step) (records : List ClientRecord) → q .count ≡ count → q .steps ≡ steps → q .records ≡ records
-    → q ≡ record { count = count; steps = steps; records = records }
-made q count steps records e f g = rw (← e, ← f, ← g)
+    (q : Sequence) (count edition : ℕ) (steps : List Step) (records : List ClientRecord)
+    → q .count ≡ count → q .edition ≡ edition → q .steps ≡ steps → q .records ≡ records
+    → q ≡ record { count = count; edition = edition; steps = steps; records = records }
+made q count edition steps records e f g h = rw (← e, ← f, ← g, ← h)
 
 module _ (s : List ℕ) where
   refused-is : (number : ℕ) (r : Loaded) → loadNumber s ≡ number → eqb number completed ≡ false → Refused number r → r ≡ loadedOf s
@@ -182,21 +185,23 @@ module _ (s : List ℕ) where
   unfolding loadNumber pick
   faulty r d f l = refused-is notStored r (rw (d, f)) refl l
 
--- ---- of blocks that are intact and as many as their counts say, what the loops found
+-- ---- of blocks that are intact, as many as their counts say and of a known edition, what the loops found
 
-abbrev Whole : List ℕ → ℕ → ℕ → Type 0
-Whole s c n = (c ≡ clientCount s) × (n ≡ stepCount s) × (countsRight c n ≡ true) × (length s ≡ 512 * blocksFor c n) × (isDamaged s ≡ false)
+abbrev Whole : List ℕ → ℕ → ℕ → ℕ → Type 0
+Whole s c n edition =
+    (c ≡ clientCount s) × (n ≡ stepCount s) × (edition ≡ editionIn s) × (countsRight c n ≡ true) × (isEdition edition ≡ true) × (length s ≡ 512 * blocksFor c n)
+    × (isDamaged s ≡ false)
 
-module _ (s : List ℕ) (c n : ℕ) (w : Whole s c n) where
+module _ (s : List ℕ) (c n edition : ℕ) (w : Whole s c n edition) where
   nothing-wrong : Bool
   nothing-wrong = clientsTaken s c && stepsTaken s c n (recordsTo s c) && (restsBlank s c n && hasEachStep s c n)
 
   faulty-where : isFaulty s ≡ not nothing-wrong
   unfolding nothing-wrong
-  faulty-where = loops-find s c n (w .0) (w .1) (w .2) (w .3)
+  faulty-where = loops-find s c n (w .0) (w .1) (w .3) (ap isEdition (sym (w .2)) ∙ w .4) (w .5)
 
   found : (r : Loaded) → nothing-wrong ≡ false → Refused notStored r → r ≡ loadedOf s
-  found r e l = faulty s r (w .4) (faulty-where ∙ ap not e) l
+  found r e l = faulty s r (w .6) (faulty-where ∙ ap not e) l
 
   -- a client record that is not taken
   pub wrong-client : (r : Loaded) → clientsTaken s c ≡ false → Refused notStored r → r ≡ loadedOf s
@@ -216,8 +221,8 @@ module _ (s : List ℕ) (c n : ℕ) (w : Whole s c n) where
       wrong-step r e l = let f : stepsTaken s c n (recordsTo s c) ≡ false = ap (stepsTaken s c n) (sym same) ∙ e in found r (rw (taken, f)) l
 
 -- every client record and every step was taken; a and b are the tests of the rest of the blocks and of a step for each record
-pub record Taken (s : List ℕ) (c n : ℕ) (records : List ClientRecord) (bits : ℕ) (a b : Bool) : Type 0 where
-  pub whole : Whole s c n
+pub record Taken (s : List ℕ) (c n edition : ℕ) (records : List ClientRecord) (bits : ℕ) (a b : Bool) : Type 0 where
+  pub whole : Whole s c n edition
   pub clients : clientsTaken s c ≡ true
   pub same : records ≡ recordsTo s c
   pub steps : stepsTaken s c n records ≡ true
@@ -225,8 +230,8 @@ pub record Taken (s : List ℕ) (c n : ℕ) (records : List ClientRecord) (bits 
   pub rest : a ≡ restsBlank s c n
   pub each : b ≡ everyBelow c (λ j. hasBit bits (clientSlot s j))
 
-module _ {s : List ℕ} {c n : ℕ} {records : List ClientRecord} {bits : ℕ} {a b : Bool} (k : Taken s c n records bits a b) where
-  left : nothing-wrong s c n (k .whole) ≡ (a && b)
+module _ {s : List ℕ} {c n edition : ℕ} {records : List ClientRecord} {bits : ℕ} {a b : Bool} (k : Taken s c n edition records bits a b) where
+  left : nothing-wrong s c n edition (k .whole) ≡ (a && b)
   unfolding nothing-wrong
   left =
       let f : stepsTaken s c n (recordsTo s c) ≡ true = ap (stepsTaken s c n) (sym (k .same)) ∙ k .steps in
@@ -234,11 +239,13 @@ module _ {s : List ℕ} {c n : ℕ} {records : List ClientRecord} {bits : ℕ} {
 
   -- fill that is not zero after what a block holds, or a record without a step
   pub wrong-rest : (r : Loaded) → (a && b) ≡ false → Refused notStored r → r ≡ loadedOf s
-  wrong-rest r e l = found s c n (k .whole) r (left ∙ e) l
+  wrong-rest r e l = found s c n edition (k .whole) r (left ∙ e) l
 
   -- nothing is wrong
-  pub accepted : (a && b) ≡ true → (q : Sequence) → q .count ≡ n → q .steps ≡ padTo blankStep 64 (stepsTo s c n) → q .records ≡ records → record { number = completed; sequence = q } ≡ loadedOf s
+  pub accepted :
+      (a && b) ≡ true → (q : Sequence) → q .count ≡ n → q .edition ≡ edition → q .steps ≡ padTo blankStep 64 (stepsTo s c n) → q .records ≡ records
+      → record { number = completed; sequence = q } ≡ loadedOf s
   unfolding loadedOf loadNumber sequenceIn pick
-  accepted e q count steps all =
-      let f : isFaulty s ≡ false = faulty-where s c n (k .whole) ∙ ap not (left ∙ e) in
-      rw (k .whole .4, f, made q n (padTo blankStep 64 (stepsTo s c n)) (recordsTo s c) count steps (all ∙ k .same), k .whole .0, k .whole .1)
+  accepted e q count known steps all =
+      let f : isFaulty s ≡ false = faulty-where s c n edition (k .whole) ∙ ap not (left ∙ e) in
+      rw (k .whole .6, f, made q n edition (padTo blankStep 64 (stepsTo s c n)) (recordsTo s c) count known steps (all ∙ k .same), k .whole .0, k .whole .1, k .whole .2)

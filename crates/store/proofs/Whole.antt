@@ -1,5 +1,5 @@
 -- What loading accepts is, byte for byte, what storing writes of the sequence that it gives, with the client records in the order in which they stand.
-use Prim.Native.Nat.{ℕ, zero, suc, _+_, _-_, _*_, _<_}
+use Prim.Native.Nat.{ℕ, zero, suc, _+_, _-_, _*_, _≤_, _<_}
 use native.Mathlib.Decide.{decLe}
 use native.Mathlib.Omega.{arith}
 use mathlib.Core.Path.{_≡_, refl, sym, ap, _∙_}
@@ -10,13 +10,13 @@ use lib.ListN.{length, getD, length-map, List·getD-append}
 use lib.Seq.{getD-at}
 use borrow.Author.Tests.{eq-eqb, not-true}
 use Rattle.octets.specs.Numbers.{completed, checkWrong}
-use Rattle.octets.specs.Octets.{bytesOf}
+use Rattle.octets.specs.Octets.{numberAt, bytesOf}
 use Rattle.octets.proofs.{Laws.Bytes, Laws.length-bytes, Cells.length-cells, Cells.cell, Tests.both}
 use Rattle.arrays.proofs.Every.{every-map}
 use Rattle.sequence.specs.Sequence.{blankStep}
 use Rattle.store.specs.Blocks.{blockBytes, isDamaged, clientBlocks, stepBlocks, blocksFor, clientPlace, stepPlace, wordAt, checkAt}
 use Rattle.store.specs.Stored.{clientBytes, stepBytes, headOf, sealedFrom}
-use Rattle.store.specs.Loaded.{clientBlank, clientCount, stepCount, clientSlot, clientAt, stepAt, stepBlank, stepsTo, restBlank, sequenceIn, loadedOf}
+use Rattle.store.specs.Loaded.{clientBlank, clientCount, stepCount, editionIn, clientSlot, clientAt, stepAt, stepBlank, stepsTo, restBlank, sequenceIn, loadedOf}
 use Rattle.store.specs.Below.{everyBelow}
 use Rattle.store.specs.Whole.{slotsRead, storedBy, Whole}
 use Rattle.store.proofs.Below.{below-cases, below-every, below-none, some-below}
@@ -25,7 +25,7 @@ use Rattle.store.proofs.Stands.{At}
 use Rattle.store.proofs.Contents.{contents, used-fits, length-contents, client-content, step-content}
 use Rattle.store.proofs.Blocks.{length-blocks}
 use Rattle.store.proofs.Places.{Things, length-content}
-use Rattle.store.proofs.Items.{step-length}
+use Rattle.store.proofs.Items.{counted, counted-length, step-length}
 use Rattle.store.proofs.Fields.{client-parts}
 use Rattle.store.proofs.Steps.{steps-length, every-step}
 use Rattle.store.proofs.Records.{hasSlot, recordTo, record-some}
@@ -37,11 +37,11 @@ use Rattle.store.proofs.Rewritten.{client-wide, client-there, step-ther
 
 -- ---- bytes of which each part stands in its place
 
--- the counts, the client records cs, the steps ns, zeros after what a block holds, and checks
-record Stand (s : List ℕ) (c n : ℕ) (cs ns : List (List ℕ)) : Type 0 where
+-- the counts and the edition, the client records cs, the steps ns, zeros after what a block holds, and checks
+record Stand (s : List ℕ) (c n edition : ℕ) (cs ns : List (List ℕ)) : Type 0 where
   bytes : Bytes s
   whole : length s ≡ blockBytes * blocksFor c n
-  head : At s 0 (headOf c n)
+  head : At s 0 (headOf c n edition)
   clients : Things 148 c cs
   steps : Things 16 n ns
   client : (k : ℕ) → k < c → At s (clientPlace k) (getD cs k [])
@@ -49,34 +49,34 @@ record Stand (s : List ℕ) (c n : ℕ) (cs ns : List (List ℕ)) : Type 0 where
   blank : (b : ℕ) → b < blocksFor c n → restBlank s c n b ≡ true
   checks : (b : ℕ) → b < blocksFor c n → wordAt s (blockBytes * b) 127 ≡ checkAt s (blockBytes * b) (b + 1)
 
-module _ {s : List ℕ} {c n : ℕ} {cs ns : List (List ℕ)} (S : Stand s c n cs ns) where
-  content-there : (b : ℕ) → b < blocksFor c n → At s (blockBytes * b) (getD (contents c n cs ns) b [])
+module _ {s : List ℕ} {c n edition : ℕ} {cs ns : List (List ℕ)} (S : Stand s c n edition cs ns) where
+  content-there : (b : ℕ) → b < blocksFor c n → At s (blockBytes * b) (getD (contents c n edition cs ns) b [])
   content-there zero h = S .head
   content-there (suc j) h =
       elim (decLe (suc j) (clientBlocks c)) [
         | yes y ↦
-            rw (client-content c n cs ns j (omega arith))
+            rw (client-content c n edition cs ns j (omega arith))
             (group-there 3 148 (clientBlocks c) (blockBytes * suc j) cs j (S .clients .wide) (omega arith) (λ r m l.
             let place : clientPlace (3 * j + r) ≡ blockBytes * suc j + 148 * r = omega arith in
             rw place at (S .client (3 * j + r) (omega (arith, S .clients .count)))))
         | no x ↦
             let i : ℕ = j - clientBlocks c in
             let e : j ≡ clientBlocks c + i = omega arith in
-            rw (ap (λ (k : ℕ). getD (contents c n cs ns) (suc k) []) e ∙ step-content c n cs ns i)
+            rw (ap (λ (k : ℕ). getD (contents c n edition cs ns) (suc k) []) e ∙ step-content c n edition cs ns i)
             (group-there 31 16 (stepBlocks n) (blockBytes * suc j) ns i (S .steps .wide) (omega arith) (λ r m l.
             let place : stepPlace c (31 * i + r) ≡ blockBytes * suc j + 16 * r = omega arith in
             rw place at (S .step (31 * i + r) (omega (arith, S .steps .count)))))
       ]
 
   -- they are the blocks
-  are-blocks : sealedFrom 1 (contents c n cs ns) ≡ s
+  are-blocks : sealedFrom 1 (contents c n edition cs ns) ≡ s
   are-blocks =
-      let all : List (List ℕ) = contents c n cs ns in
-      let count : length all ≡ blocksFor c n = length-contents c n cs ns in
+      let all : List (List ℕ) = contents c n edition cs ns in
+      let count : length all ≡ blocksFor c n = length-contents c n edition cs ns in
       is-whole s (sealedFrom 1 all)
       (blocks-there 1 0 all (λ b l.
       let h : b < blocksFor c n = rw count at l in
-      let used = length-content (record { clients = S .clients; steps = S .steps; bytes = refl }) b h in
+      let used = length-content {edition = edition} (record { clients = S .clients; steps = S .steps; bytes = refl }) b h in
       let from : 0 + blockBytes * b ≡ blockBytes * b = omega arith in
       let number : 1 + b ≡ b + 1 = omega arith in
       rw (from, number)
@@ -150,9 +150,13 @@ module _ (s : List ℕ) (B : Bytes s) (f : Faultless s) (d : isDamaged s ≡ fal
       rw (map-at stepBytes (stepsTo s c n) k blankStep [] (rw (steps-length s c n) h), step-of s c n k h)
       (step-there s B (stepPlace c k) (omega (arith, f .blocks)) (below-every (λ i. stepBlank s (stepPlace c i)) n (fills .1) k h))
 
-  head-stands : At s 0 (headOf c n)
+  head-stands : At s 0 (headOf c n (editionIn s))
   head-stands =
-      both-there (bytesOf 4 c) (bytesOf 4 n) 4 (length-bytes 4 c) (number-there s B 4 0 (omega (arith, f .blocks))) (number-there s B 4 4 (omega (arith, f .blocks)))
+      let number : (p : ℕ) → p + 4 ≤ 512 → At s p (bytesOf 4 (numberAt 4 s p)) = λ p h. number-there s B 4 p (omega (arith, f .blocks)) in
+      let less : editionIn s - 1 ≡ numberAt 4 s 8 = omega arith in
+      both-there (counted c n) (bytesOf 4 (editionIn s - 1)) 8 (counted-length c n)
+      (both-there (bytesOf 4 c) (bytesOf 4 n) 4 (length-bytes 4 c) (number 0 (omega arith)) (number 4 (omega arith)))
+      (rw less (number 8 (omega arith)))
 
   client-things : Things 148 c (map client (slotsRead s c))
   client-things =
@@ -168,7 +172,7 @@ module _ (s : List ℕ) (B : Bytes s) (f : Faultless s) (d : isDamaged s ≡ fal
         wide = every-map stepBytes _ (stepsTo s c n) (every-step s c _ n (λ k h. step-length (stepAt s (stepPlace c k))));
       }
 
-  stand : Stand s c n (map client (slotsRead s c)) (map stepBytes (stepsTo s c n))
+  stand : Stand s c n (editionIn s) (map client (slotsRead s c)) (map stepBytes (stepsTo s c n))
   unfolding checkAt
   stand =
       record {

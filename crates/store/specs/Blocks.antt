@@ -1,6 +1,7 @@
 -- 02, request 1: "Store one sequence as blocks of 512 bytes, each with its own check: the first holds the client records' count and the step count, then
 -- client records, then steps, each block filled with zeros. The last four bytes are the wrapping sum of the block's 127 leading 32-bit words and its
--- number from 1." Three client records of 148 bytes stand in a block, and 31 steps of 16 bytes; numbers are least significant byte first.
+-- number from 1." Request 11: "The edition stands in the first block." Three client records of 148 bytes stand in a block, and 31 steps of 16 bytes;
+-- numbers are least significant byte first.
 use Prim.Native.Nat.{ℕ, zero, suc, _+_, _-_, _*_, _/_, _%_, min}
 use mathlib.Core.Bool.{Bool, not}
 use mathlib.Core.List.{List}
@@ -61,7 +62,7 @@ blocksFor c n = 1 + clientBlocks c + stepBlocks n
 -- how much of block b, counted from 0, is not fill
 unfoldable pub usedBytes : ℕ → ℕ → ℕ → ℕ
 usedBytes c n b =
-    pick (eqb b 0) 8
+    pick (eqb b 0) 12
     (pick (leb b (clientBlocks c)) (148 * min 3 (c - 3 * (b - 1)))
     (16 * min 31 (n - 31 * (b - 1 - clientBlocks c))))
 

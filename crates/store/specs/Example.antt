@@ -1,5 +1,5 @@
--- Which byte is which field: the contents of a sequence's blocks in which no two fields of a block, a client record or a step are alike, and a block with
--- its check.
+-- Which byte is which field: the contents of a sequence's blocks in which no two fields of the first block, of a client record or of a step are alike, and
+-- a block with its check.
 use Prim.Native.Nat.{ℕ}
 use mathlib.Core.Path.{_≡_}
 use mathlib.Core.List.{List, [], _∷_, _++_}
@@ -11,7 +11,7 @@ use Rattle.sequence.specs.declared.Step.{Step}
 use Rattle.sequence.specs.declared.Sequence.{Sequence}
 use Rattle.store.specs.Stored.{contentsOf, sealed}
 
--- the client in slot 5, with labels "AB" and "CDE"
+-- a client with labels "AB" and "CDE"
 abbrev pub sampleClient : ClientRecord
 sampleClient = record {
   used = 1;
@@ -27,9 +27,19 @@ sampleStep = record { slot = 5; function = 0x21; state = 0x22; distance = 1; val
 abbrev pub sampleSequence : Sequence
 sampleSequence = record {
   count = 4;
+  edition = 2;
   steps = sampleStep ∷ sampleStep ∷ sampleStep ∷ sampleStep ∷ replicate 60 blankStep;
-  records = replicate 5 blankRecord ++ sampleClient ∷ replicate 2 blankRecord;
+  records = replicate 5 blankRecord ++ sampleClient ∷ sampleClient ∷ blankRecord ∷ [];
 }
+
+-- slot, lengths of both labels, zero; NAME; master NAME; version label and zero; configuration label and zero
+abbrev pub recordBytes : ℕ → List ℕ
+recordBytes slot =
+    slot ∷ 2 ∷ 3 ∷ 0 ∷ []
+    ++ 0x01 ∷ 0x02 ∷ 0x03 ∷ 0x04 ∷ 0x05 ∷ 0x06 ∷ 0x07 ∷ 0x08 ∷ []
+    ++ 0x11 ∷ 0x12 ∷ 0x13 ∷ 0x14 ∷ 0x15 ∷ 0x16 ∷ 0x17 ∷ 0x18 ∷ []
+    ++ 0x41 ∷ 0x42 ∷ replicate 62 0
+    ++ 0x43 ∷ 0x44 ∷ 0x45 ∷ replicate 61 0
 
 -- slot, function, state, 1 for millimetres; mark; value; four zeros
 abbrev pub sampleBytes : List ℕ
@@ -40,16 +50,12 @@ sampleBytes =
     ++ 0 ∷ 0 ∷ 0 ∷ 0 ∷ []
 
 pub record Layout : Type 0 where
-  -- "the first holds the client records' count and the step count, then client records, then steps"
+  -- "the first holds the client records' count and the step count, then client records, then steps"; "The edition stands in the first block."
   pub contents : contentsOf sampleSequence ≡
-      -- counts of client records and of steps
-      (1 ∷ 0 ∷ 0 ∷ 0 ∷ 4 ∷ 0 ∷ 0 ∷ 0 ∷ [])
-      -- slot, lengths of both labels, zero; NAME; master NAME; version label and zero; configuration label and zero
-      ∷ (5 ∷ 2 ∷ 3 ∷ 0 ∷ []
-      ++ 0x01 ∷ 0x02 ∷ 0x03 ∷ 0x04 ∷ 0x05 ∷ 0x06 ∷ 0x07 ∷ 0x08 ∷ []
-      ++ 0x11 ∷ 0x12 ∷ 0x13 ∷ 0x14 ∷ 0x15 ∷ 0x16 ∷ 0x17 ∷ 0x18 ∷ []
-      ++ 0x41 ∷ 0x42 ∷ replicate 62 0
-      ++ 0x43 ∷ 0x44 ∷ 0x45 ∷ replicate 61 0)
+      -- counts of client records and of steps, the edition less one
+      (2 ∷ 0 ∷ 0 ∷ 0 ∷ 4 ∷ 0 ∷ 0 ∷ 0 ∷ 1 ∷ 0 ∷ 0 ∷ 0 ∷ [])
+      -- the client records, lowest slot first
+      ∷ (recordBytes 5 ++ recordBytes 6)
       -- the steps, one after the other
       ∷ (sampleBytes ++ sampleBytes ++ sampleBytes ++ sampleBytes)
       ∷ []

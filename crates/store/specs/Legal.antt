@@ -1,4 +1,4 @@
--- What a sequence is that blocks may say: each field in its range, and exactly the slots of which there is a step have a record.
+-- What a sequence is that blocks may say: each field in its range, the edition too, and exactly the slots of which there is a step have a record.
 use Prim.Native.Nat.{ℕ, _≤_, _<_, _^_}
 use mathlib.Core.Path.{_≡_}
 use mathlib.Core.Bool.{true}
@@ -34,7 +34,7 @@ pub record RightStep (s : Step) : Type 0 where
   pub millimetres : s .distance ≡ 1 → s .mark ≤ 2359194465
 
 pub record Legal (q : Sequence) : Type 0 where
-  -- "1 to 64 steps", cells after them blank; a record for exactly the slots of which there is a step
+  -- "1 to 64 steps", cells after them blank; a record for exactly the slots of which there is a step; edition 1 or 2
   pub some-step : 1 ≤ q .count
   pub sound : SoundSequence q
   pub steps : Every (λ s. stepRight s ≡ true) (stepsOf q)

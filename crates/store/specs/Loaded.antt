@@ -1,6 +1,6 @@
 -- 02, request 1, loading: the sequence that blocks say, and the numbers. "Refusals: 16 the check of a whole lent block, 17 counts or fields out of range
 -- (1 to 8 clients, 1 to 64 steps, fields as in document 01), fill not zero, a slot twice, blocks missing or left over, a step without its client's record
--- or a record without a step".
+-- or a record without a step". Request 11: "an unknown edition gives 17".
 use Prim.Native.Nat.{ℕ, zero, suc, _+_, _-_, _*_}
 use mathlib.Core.Bool.{Bool, not, _&&_}
 use mathlib.Core.List.{List, [], _∷_, _++_}
@@ -12,6 +12,7 @@ use Rattle.pool.specs.{Ranges.labelRight, StageTwo.characterRight}
 use Rattle.arrays.specs.Arrays.{some, padTo}
 use Rattle.client.specs.{Clients.slotCount, Records.blankRecord, declared.ClientRecord.ClientRecord}
 use Rattle.sequence.specs.Sequence.{mostSteps, blankStep, blankSequence}
+use Rattle.sequence.specs.Editions.{isEdition}
 use Rattle.sequence.specs.{declared.Step.Step, declared.Sequence.Sequence}
 use Rattle.store.specs.Below.{everyBelow, someBelow}
 use Rattle.store.specs.Blocks.{blockBytes, contentBytes, isDamaged, blocksFor, usedBytes, clientPlace, stepPlace}
@@ -72,6 +73,10 @@ clientCount s = numberAt 4 s 0
 abbrev pub stepCount : List ℕ → ℕ
 stepCount s = numberAt 4 s 4
 
+-- what stands in the block is the edition less one
+abbrev pub editionIn : List ℕ → ℕ
+editionIn s = numberAt 4 s 8 + 1
+
 -- the slot of client record k, and that of step k of as many clients
 abbrev pub clientSlot : List ℕ → ℕ → ℕ
 clientSlot s k = byteAt s (clientPlace k)
@@ -92,6 +97,7 @@ stepsTo s c (suc k) = stepsTo s c k ++ stepAt s (stepPlace c k) ∷ []
 unfoldable pub sequenceIn : List ℕ → Sequence
 sequenceIn s = record {
   count = stepCount s;
+  edition = editionIn s;
   steps = padTo blankStep mostSteps (stepsTo s (clientCount s) (stepCount s));
   records = recordsTo s (clientCount s);
 }
@@ -136,6 +142,8 @@ module _ (s : List ℕ) (c n : ℕ) where
   reasonsFor =
       -- "counts .. out of range (1 to 8 clients, 1 to 64 steps"
       not (countsRight c n)
+      -- "an unknown edition"
+      ∷ not (isEdition (editionIn s))
       -- "blocks missing or left over", none at all and a part of one among them
       ∷ not (eqb (length s) (blockBytes * blocksFor c n))
       -- ".. or fields out of range (.. fields as in document 01)"

@@ -1,5 +1,5 @@
--- 02, request 1, storing: the bytes of a sequence's blocks.
-use Prim.Native.Nat.{ℕ, zero, suc, _+_, _*_}
+-- 02, request 1, storing: the bytes of a sequence's blocks, with the edition of request 11.
+use Prim.Native.Nat.{ℕ, zero, suc, _+_, _-_, _*_}
 use mathlib.Core.List.{List, [], _∷_, _++_, map}
 use lib.ListN.{length, take, drop, getD}
 use lib.Seq.{sets}
@@ -36,9 +36,10 @@ slotsIn records = those (λ slot. isUsed (getD records slot blankRecord)) (0 ∷
 abbrev pub clientsIn : List ClientRecord → List (List ℕ)
 clientsIn records = map (λ slot. clientBytes slot (getD records slot blankRecord)) (slotsIn records)
 
--- "the first holds the client records' count and the step count"
-abbrev pub headOf : ℕ → ℕ → List ℕ
-headOf c n = bytesOf 4 c ++ bytesOf 4 n
+-- "the first holds the client records' count and the step count"; "The edition stands in the first block": the edition less one, so that in edition 1 the
+-- block is what it was before there were editions
+abbrev pub headOf : ℕ → ℕ → ℕ → List ℕ
+headOf c n edition = bytesOf 4 c ++ bytesOf 4 n ++ bytesOf 4 (edition - 1)
 
 -- ---- blocks
 
@@ -54,7 +55,7 @@ groups (suc blocks) n l = joined (take n l) ∷ groups blocks n (drop n l)
 -- "then client records, then steps": steps begin in a new block
 unfoldable pub contentsOf : Sequence → List (List ℕ)
 contentsOf q =
-    headOf (length (slotsIn (q .records))) (length (stepsOf q))
+    headOf (length (slotsIn (q .records))) (length (stepsOf q)) (q .edition)
     ∷ groups (clientBlocks (length (slotsIn (q .records)))) 3 (clientsIn (q .records))
     ++ groups (stepBlocks (length (stepsOf q))) 31 (map stepBytes (stepsOf q))
 

@@ -1,5 +1,5 @@
--- What loading accepts is, byte for byte, the blocks of the sequence that it gives: each count, each fill byte, each check and how many blocks there
--- are. Only the order of the client records is free: they are stored lowest slot first, and read in any order.
+-- What loading accepts is, byte for byte, the blocks of the sequence that it gives: each count, the edition, each fill byte, each check and how many blocks
+-- there are. Only the order of the client records is free: they are stored lowest slot first, and read in any order.
 use Prim.Native.Nat.{ℕ}
 use mathlib.Core.Path.{_≡_}
 use mathlib.Core.Bool.{true}
@@ -30,7 +30,7 @@ clientsBy slots q = map (λ slot. clientBytes slot (getD (q .records) slot blank
 unfoldable pub storedBy : List ℕ → Sequence → List ℕ
 storedBy slots q =
     sealedFrom 1
-    (headOf (length slots) (length (stepsOf q))
+    (headOf (length slots) (length (stepsOf q)) (q .edition)
     ∷ groups (clientBlocks (length slots)) 3 (clientsBy slots q)
     ++ groups (stepBlocks (length (stepsOf q))) 31 (map stepBytes (stepsOf q)))
 

@@ -73,7 +73,7 @@ pub(crate) fn used_bytes(c: usize, n: usize, b: usize) -> usize
     ensures { λ r. ⌜ r ≡ usedBytes c n b ⌝ }
 {
     if b == 0 {
-        return 8;
+        return 12;
     }
     let clients = client_blocks(c);
     if b <= clients {

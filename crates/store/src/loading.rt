@@ -8,10 +8,11 @@ ghost use Rattle.octets.specs.Bits.{hasBit};
 ghost use Rattle.pool.specs.StageTwo.{characterRight};
 ghost use Rattle.arrays.specs.Arrays.{padTo};
 ghost use Rattle.sequence.specs.Sequence.{blankSequence, blankStep};
+ghost use Rattle.sequence.specs.Editions.{isEdition};
 ghost use Rattle.store.specs.Below.{everyBelow, someBelow};
 ghost use Rattle.store.specs.Blocks.{isIntact, isDamaged, blocksFor, stepPlace};
 ghost use Rattle.store.specs.Fields.{mostMark, stepRight};
-ghost use Rattle.store.specs.Loaded.{byteAt, isBlank, clientAt, clientRight, clientBlank, stepAt, clientCount, stepCount, clientSlot, stepSlot, recordsTo, stepsTo, countsRight, restBlank, areClientsRight, loadedOf};
+ghost use Rattle.store.specs.Loaded.{byteAt, isBlank, clientAt, clientRight, clientBlank, stepAt, clientCount, stepCount, editionIn, clientSlot, stepSlot, recordsTo, stepsTo, countsRight, restBlank, areClientsRight, loadedOf};
 ghost use Rattle.store.specs.Taken.{clientTaken, stepTaken};
 use crate::BLOCK_BYTES;
 use crate::CONTENT_BYTES;
@@ -36,6 +37,7 @@ use octets::with_bit;
 use pool::ranges::label_right;
 use pool::stage_two::character_right;
 use sequence::MOST_STEPS;
+use sequence::SECOND_EDITION;
 use sequence::Sequence;
 use sequence::Step;
 use sequence::blank_sequence;
@@ -310,9 +312,9 @@ fn shape_right(len: usize, c: u32, n: u32) -> bool
     len == BLOCK_BYTES * blocks_for(c as usize, n as usize)
 }
 
-// Blocks of so many clients and steps, of which no check is wrong.
-fn judged(s: &[u8], c: usize, n: usize) -> Loaded
-    requires { ⌜ (c ≡ clientCount (now s)) × (n ≡ stepCount (now s)) × (countsRight c n ≡ true) × (length (now s) ≡ 512 * blocksFor c n) × (isDamaged (now s) ≡ false) ⌝ }
+// Blocks of so many clients and steps, of this edition, of which no check is wrong.
+fn judged(s: &[u8], c: usize, n: usize, edition: u32) -> Loaded
+    requires { ⌜ (c ≡ clientCount (now s)) × (n ≡ stepCount (now s)) × (edition ≡ editionIn (now s)) × (countsRight c n ≡ true) × (isEdition edition ≡ true) × (length (now s) ≡ 512 * blocksFor c n) × (isDamaged (now s) ≡ false) ⌝ }
     ensures { λ r. ⌜ r ≡ loadedOf (now (s .entry)) ⌝ }
 {
     let clients = clients_from(s, c);
@@ -330,6 +332,7 @@ fn judged(s: &[u8], c: usize, n: usize) -> Loaded
     let steps = taken.steps;
     let sequence = Sequence {
         count: n,
+        edition,
         steps,
         records,
     };
@@ -348,8 +351,9 @@ pub fn load(blocks: &[u8]) -> Loaded
     }
     let c = u32_at(blocks, 0);
     let n = u32_at(blocks, 4);
-    if !shape_right(blocks.len(), c, n) {
+    let less = u32_at(blocks, 8);
+    if !(shape_right(blocks.len(), c, n) & (less < SECOND_EDITION)) {
         return refused(NOT_STORED);
     }
-    judged(blocks, c as usize, n as usize)
+    judged(blocks, c as usize, n as usize, less + 1)
 }

@@ -1,7 +1,7 @@
 // Storing: a sequence is written as blocks, from the start of the lent bytes on.
 ghost use mathlib.Core.Path.{_≡_};
 ghost use mathlib.Core.List.{[], _∷_, map};
-ghost use Prim.Native.Nat.{_+_, _*_, _≤_, _<_};
+ghost use Prim.Native.Nat.{_+_, _-_, _*_, _≤_, _<_};
 ghost use lib.ListN.{length, take, drop, getD, replicate};
 ghost use lib.Seq.{sets};
 ghost use Rattle.arrays.specs.Arrays.{padTo};
@@ -161,6 +161,16 @@ fn seal(out: &mut [u8], i: usize, used: usize, number: usize)
     put_u32(out, i + CONTENT_BYTES, check);
 }
 
+// As the edition stands in the first block.
+fn less_one(edition: u32) -> u32
+    ensures { λ r. ⌜ r ≡ edition - 1 ⌝ }
+{
+    if edition == 0 {
+        return 0;
+    }
+    edition - 1
+}
+
 // What block b, counted from 0, holds of a sequence.
 fn put_content(out: &mut [u8], q: Sequence, used: Used, b: usize)
     requires { ⌜ (b < blocksFor (length (slotsIn (q .records))) (lengthOf q)) × (used .count ≡ length (slotsIn (q .records))) × (used .slots ≡ padTo 0 8 (slotsIn (q .records))) ⌝ }
@@ -173,6 +183,7 @@ fn put_content(out: &mut [u8], q: Sequence, used: Used, b: usize)
     if b == 0 {
         put_u32(out, 0, c as u32);
         put_u32(out, 4, n as u32);
+        put_u32(out, 8, less_one(q.edition));
         return;
     }
     let clients = client_blocks(c);

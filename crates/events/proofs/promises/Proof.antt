@@ -4,6 +4,7 @@ use Rattle.events.proofs.Accepts.{never-refused}
 use Rattle.events.proofs.Starts.{start-exactly}
 use Rattle.events.proofs.Named.{named}
 use Rattle.events.proofs.Neighbour.{neighbours}
+use Rattle.events.proofs.Editions.{two-rules}
 use Rattle.events.proofs.Regular.{never-cut, never-bites}
 use Rattle.events.proofs.promises.Statement.{statement}
 use Rattle.events.proofs.promises.Tie as tie
@@ -18,6 +19,7 @@ returns c = record {
   start-exactly = start-exactly;
   named = named;
   neighbours = neighbours;
+  two-rules = two-rules;
   never-cut = never-cut;
   never-bites = never-bites;
 }

@@ -1,7 +1,7 @@
 -- `history::promises` meets its contract: four parts are what the other functions ensure, the others are the theorems.
 use borrow.Author.Needs.{needs}
 use Rattle.events.proofs.Regular.{given-regular}
-use Rattle.history.proofs.Runs.{traces, recorded, exact, loaded, others, happened, happened-last}
+use Rattle.history.proofs.Runs.{traces, recorded, exact, loaded, set, others, happened, happened-last}
 use Rattle.history.proofs.Blocks.{stored}
 use Rattle.history.proofs.promises.Statement.{statement}
 use Rattle.history.proofs.promises.Tie as tie
@@ -16,6 +16,7 @@ returns c = record {
   kept = λ events. traces events .kept;
   exact = exact;
   loaded = loaded;
+  set = set;
   others = others;
   stored = stored;
   happened = happened;

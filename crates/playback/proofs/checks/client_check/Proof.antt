@@ -19,7 +19,7 @@ returns-3 : tie.Need-returns-3
 unfolding pick firstFailing ofSequence clientChecks
 returns-3 c =
     let e = c .before .before in
-    rw (ne-eqb _ _ (e .before .before .if1 .left), granted _ _ (e .before .is-enabled .ensures) (e .if2 .left), denied _ _ (c .before .names-agree .ensures) (c .if3 .taken))
+    rw (ne-eqb _ _ (e .before .before .if1 .left), granted _ _ (e .before .is-enabled .ensures) (e .if2 .left), denied _ _ (c .before .agree-by .ensures) (c .if3 .taken))
 
 returns-4 : tie.Need-returns-4
 unfolding pick firstFailing ofSequence clientChecks
@@ -29,7 +29,7 @@ returns-4 c =
     rw (
       ne-eqb _ _ (e .before .before .if1 .left),
       granted _ _ (e .before .is-enabled .ensures) (e .if2 .left),
-      granted _ _ (n .before .names-agree .ensures) (n .if3 .left),
+      granted _ _ (n .before .agree-by .ensures) (n .if3 .left),
       denied _ _ (c .before .labels-agree .ensures) (c .if4 .taken),
     )
 
@@ -41,7 +41,7 @@ returns-5 c =
     rw (
       ne-eqb _ _ (e .before .before .if1 .left),
       granted _ _ (e .before .is-enabled .ensures) (e .if2 .left),
-      granted _ _ (n .before .names-agree .ensures) (n .if3 .left),
+      granted _ _ (n .before .agree-by .ensures) (n .if3 .left),
       granted _ _ (c .before .labels-agree .ensures) (c .if4 .left),
     )
 

@@ -11,7 +11,7 @@ use Rattle.octets.proofs.Tests.{pick-true, pick-false}
 use Rattle.arrays.proofs.Pad.{length-mapped}
 use Rattle.sequence.specs.Sequence.{stepsOf}
 use Rattle.playback.specs.Pairs.{pairs}
-use Rattle.playback.specs.Verification.{firstFailing, namesAgree, clientChecks, stepChecks}
+use Rattle.playback.specs.Verification.{firstFailing, ruleOf, clientChecks, stepChecks}
 use Rattle.playback.proofs.Failing.{left-of, start-of, end-of, hit-of, miss-of, client-numbered, by-client, by-step}
 use Rattle.playback.proofs.BySlot.{left, start, end, turn}
 use Rattle.playback.proofs.checks.first_check.Statement.{statement}
@@ -22,7 +22,7 @@ Inv-loop sequence slots records steps missing₀ i₀ missing i =
     (length slots ≡ 8)
     × (length (sequence .records) ≡ 8)
     × (i ≤ 8)
-    × (firstFailing (flatMap (clientChecks namesAgree) (pairs slots (sequence .records))) ≡ left-of (clientChecks namesAgree) slots (sequence .records) i)
+    × (firstFailing (flatMap (clientChecks (ruleOf (sequence .edition))) (pairs slots (sequence .records))) ≡ left-of (clientChecks (ruleOf (sequence .edition))) slots (sequence .records) i)
     × (firstFailing (flatMap (stepChecks slots) (stepsOf sequence)) ≡ pick missing notInPool (left slots (stepsOf sequence) i))
 
 abbrev μ-loop : tie.MeasureT-loop
@@ -39,7 +39,7 @@ returns c =
     let b = c .before .before .before .before .before .before in
     let a = b .before .before .before .args in
     let v = b .loop .inv in
-    by-client namesAgree (a .t1) (a .sequence) _ (v .3 ∙ hit-of _ _ _ _ (v .0) (v .1) _ _ _ _ (omega arith) (c .before .client-check .ensures) (c .if1 .taken)) (c .if1 .taken)
+    by-client _ (a .t1) (a .sequence) _ (v .3 ∙ hit-of _ _ _ _ (v .0) (v .1) _ _ _ _ (omega arith) (c .before .client-check .ensures) (c .if1 .taken)) (c .if1 .taken)
 
 loop-again : tie.Need-loop-again Inv-loop μ-loop
 unfolding stepsOf
@@ -53,7 +53,7 @@ loop-again c =
       v .0,
       v .1,
       omega arith,
-      v .3 ∙ miss-of _ _ _ _ (v .0) (v .1) _ _ _ _ (omega arith) (e .before .client-check .ensures) (client-numbered namesAgree) (e .if1 .left),
+      v .3 ∙ miss-of _ _ _ _ (v .0) (v .1) _ _ _ _ (omega arith) (e .before .client-check .ensures) (client-numbered _) (e .if1 .left),
       v .4 ∙ turn _ (v .0) _ _ (omega arith) _ _ _ n (c .first-missing-in .ensures),
     )
 

@@ -4,18 +4,20 @@ use Prim.Native.Nat.{_-_}
 use native.Mathlib.Omega.{arith}
 use lib.ListN.{length}
 use borrow.Author.Needs.{needs}
-use Rattle.playback.specs.Verification.{namesAgree, clientChecks}
+use Rattle.playback.specs.Verification.{ruleOf, clientChecks}
 use Rattle.playback.specs.Named.{lowestSlot}
 use Rattle.playback.proofs.Lowest.{lowest-from, lowest-start, lowest-end, lowest-hit, lowest-miss}
 use Rattle.playback.proofs.named.lowest_failing.Statement.{statement}
 use Rattle.playback.proofs.named.lowest_failing.Tie as tie
 
 abbrev Inv-loop : tie.InvT-loop
-Inv-loop slots records i₀ i =
-    (length slots ≡ 8) × (length records ≡ 8) × (lowestSlot (clientChecks namesAgree) slots records ≡ lowest-from (clientChecks namesAgree) slots records i)
+Inv-loop edition slots records i₀ i =
+    (length slots ≡ 8)
+    × (length records ≡ 8)
+    × (lowestSlot (clientChecks (ruleOf edition)) slots records ≡ lowest-from (clientChecks (ruleOf edition)) slots records i)
 
 abbrev μ-loop : tie.MeasureT-loop
-μ-loop slots records i₀ i = 8 - i
+μ-loop edition slots records i₀ i = 8 - i
 
 loop-holds : tie.Need-loop-holds Inv-loop μ-loop
 loop-holds c = (search needs, search needs, lowest-start _ _ _ (search needs) (search needs))

@@ -8,7 +8,7 @@ use borrow.Author.Needs.{needs}
 use Rattle.arrays.proofs.Pad.{length-mapped}
 use Rattle.store.specs.Blocks.{blocksFor}
 use Rattle.store.proofs.Slots.{slots-few}
-use Rattle.store.proofs.Contents.{used-clients, used-steps, block-room, clients-room, steps-room, head-stored, head-length, content-clients, content-steps}
+use Rattle.store.proofs.Contents.{used-clients, used-steps, block-room, clients-room, steps-room, first-stored, first-length, content-clients, content-steps}
 use Rattle.store.proofs.storing.put_content.Statement.{statement}
 use Rattle.store.proofs.storing.put_content.Tie as tie
 
@@ -23,14 +23,17 @@ cast-put-u32 c = let few = slots-few (c .before .before .before .before .args .q
 
 returns : tie.Need-returns
 returns c =
-    let s2 = c .before .before in
+    let s3 = c .before .before in
+    let less = s3 .before in
+    let s2 = less .before .before .before .before in
     let s1 = s2 .before .before .before .before in
     let n = s1 .before .before .before in
     let s = n .before .before in
     let a = s .args in
     let none = s1 .before .before .if1 .taken in (
-      rw (s2 .put-u322 .ensures, s1 .put-u32 .ensures) (head-stored (a .q) (long s) (a .used .count) (n .len .result) (a .b) (s .pre .1) (n .len .ensures) (now (a .out)) none),
-      head-length (a .q) (long s) (a .b) none,
+      rw (s3 .put-u323 .ensures, less .less-one .ensures, s2 .put-u322 .ensures, s1 .put-u32 .ensures)
+          (first-stored (a .q) (long s) (a .used .count) (n .len .result) (a .b) (s .pre .1) (n .len .ensures) (now (a .out)) none),
+      first-length (a .q) (long s) (a .b) none,
     )
 
 client-blocks-requires : tie.Need-client-blocks-requires
@@ -96,6 +99,6 @@ pub put-content-spec : {M : Type 1} → statement M
 put-content-spec =
     tie.close
     (tie.spec
-    mul-at (λ c κs. search needs) cast-put-u32 (λ c κs. search needs) (λ c. search needs) (λ c κs. search needs) (λ c. search needs) returns
+    mul-at (λ c κs. search needs) cast-put-u32 (λ c κs. search needs) (λ c. search needs) (λ c κs. search needs) (λ c κs. search needs) (λ c κs. search needs) (λ c. search needs) returns
     client-blocks-requires (λ c. search needs) (λ c. search needs) (λ c. search needs) (λ c κs. search needs) put-clients-requires (λ c. search needs) returns-2
     (λ c. search needs) (λ c. search needs) (λ c. search needs) (λ c. search needs) (λ c κs. search needs) put-steps-requires (λ c. search needs) returns-3)
