@@ -87,7 +87,7 @@ plays m number e = go (isPlaying m) e
 is-recording : (m : Master) → m .state ≡ state.recording → isRecording m ≡ true
 is-recording m e = rw e
 
--- an edition is set where there is a step
+-- an edition is set where there is a step and it is known
 set : (q : Sequence) (n : ℕ) → unset q n ≡ 0 → (1 ≤ lengthOf q) × (isEdition n ≡ true)
 unfolding unset pick
 set q n e = go (eqb (lengthOf q) 0) refl (isEdition n) e
