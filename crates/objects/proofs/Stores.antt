@@ -12,7 +12,7 @@ use lib.Dec.{eqb}
 use borrow.Author.Tests.{eq-eqb, ne-eqb}
 use borrow.Rule.Slice.PartMut.{putMid}
 use Rattle.octets.specs.Octets.{numberAt, bytesOf}
-use Rattle.octets.proofs.Laws.{length-bytes}
+use Rattle.octets.proofs.Laws.{length-bytes, then-sets}
 use Rattle.pool.specs.Fields.{numbersAt}
 use Rattle.pool.proofs.Lists.{length-numbers, number-in}
 use Rattle.objects.specs.Objects.{Field, field, bytesOfFields, allBlank}
@@ -30,16 +30,10 @@ module _ (w : ℕ) (s : List ℕ) (i n k : ℕ) (out : List ℕ) where
 
 -- ---- fields that are stored
 
-pub sets-append : (l : List ℕ) (i : ℕ) (xs ys : List ℕ) → sets l i (xs ++ ys) ≡ sets (sets l i xs) (i + length xs) ys
-sets-append l i [] ys = ap (λ (j : ℕ). sets l j ys) (sym (add-zero i))
-sets-append l i (x ∷ xs) ys =
-    sets-append (set l i x) (suc i) xs ys ∙ ap (λ (j : ℕ). sets (sets (set l i x) (suc i) xs) j ys) (suc-add i (length xs) ∙ sym (add-suc i (length xs)))
-
 field-first : (out : List ℕ) (i : ℕ) (f : Field) (fs : List Field) → sets out i (bytesOfFields (f ∷ fs)) ≡ sets (sets out i (bytesOf (f .width) (f .value))) (i + f .width) (bytesOfFields fs)
 unfolding bytesOfFields
 field-first out i f fs =
-    sets-append out i (bytesOf (f .width) (f .value)) (bytesOfFields fs)
-    ∙ ap (λ (n : ℕ). sets (sets out i (bytesOf (f .width) (f .value))) (i + n) (bytesOfFields fs)) (length-bytes (f .width) (f .value))
+    then-sets out i (f .width) (bytesOf (f .width) (f .value)) (bytesOfFields fs) (length-bytes (f .width) (f .value))
 
 -- how many bytes they are
 unfoldable pub total : List Field → ℕ
@@ -75,8 +69,7 @@ fields-append (f ∷ fs) gs = rw (fields-append fs gs) (sym (append-assoc (bytes
 pub then-stored : (out : List ℕ) (i n : ℕ) (fs gs : List Field) → total fs ≡ n → sets out i (bytesOfFields (fs ++ gs)) ≡ sets (sets out i (bytesOfFields fs)) (i + n) (bytesOfFields gs)
 then-stored out i n fs gs e =
     ap (sets out i) (fields-append fs gs)
-    ∙ sets-append out i (bytesOfFields fs) (bytesOfFields gs)
-    ∙ ap (λ (m : ℕ). sets (sets out i (bytesOfFields fs)) (i + m) (bytesOfFields gs)) (length-fields fs ∙ e)
+    ∙ then-sets out i n (bytesOfFields fs) (bytesOfFields gs) (length-fields fs ∙ e)
 
 -- the first n numbers of a list, all of one width, from the k-th on
 pub number-start : (w : ℕ) (l : List ℕ) (n i : ℕ) (out : List ℕ) → sets out i (bytesOfFields (map (field w) (take n l))) ≡ sets out (i + 0) (bytesOfFields (map (field w) (take n l)))

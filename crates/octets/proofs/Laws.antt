@@ -76,7 +76,19 @@ number-of-bytes (suc w) v s i rest e h =
     let d : drop (i + 1) s ≡ bytesOf w (v / 256) ++ rest = past s i 1 (x ∷ []) (bytesOf w (v / 256) ++ rest) refl e in
     omega (arith, here s i x (bytesOf w (v / 256) ++ rest) e, number-of-bytes w (v / 256) s (i + 1) rest d f, mod-add-div v 256)
 
--- ---- stores, one byte after the other
+-- ---- stores, one after the other
+
+-- two lists, the second where the first ends
+pub sets-append : (l : List ℕ) (i : ℕ) (xs ys : List ℕ) → sets l i (xs ++ ys) ≡ sets (sets l i xs) (i + length xs) ys
+sets-append l i [] ys = ap (λ (j : ℕ). sets l j ys) (sym (add-zero i))
+sets-append l i (x ∷ xs) ys =
+    sets-append (set l i x) (suc i) xs ys ∙ ap (λ (j : ℕ). sets (sets (set l i x) (suc i) xs) j ys) (suc-add i (length xs) ∙ sym (add-suc i (length xs)))
+
+-- the same where the first list's length is known
+pub then-sets : (l : List ℕ) (i n : ℕ) (xs ys : List ℕ) → length xs ≡ n → sets l i (xs ++ ys) ≡ sets (sets l i xs) (i + n) ys
+then-sets l i n xs ys e = sets-append l i xs ys ∙ ap (λ (m : ℕ). sets (sets l i xs) (i + m) ys) e
+
+-- byte after byte
 module _ (out : List ℕ) (i : ℕ) where
   pub put-start : (w v : ℕ) → sets out i (bytesOf w v) ≡ sets out (i + 0) (bytesOf (w - 0) v)
   put-start w v =

@@ -9,10 +9,9 @@ use lib.ListN.{length, take, drop, length-drop, take-append-drop, drop-of-length
 use lib.Seq.{sets, sets-eq, length-sets, drop-drop, length-take-le}
 use borrow.Author.Tests.{le-ltb}
 use Rattle.octets.specs.Pick.{pick}
-use Rattle.octets.proofs.Laws.{Bytes}
+use Rattle.octets.proofs.Laws.{Bytes, sets-append}
 use Rattle.pool.specs.Fields.{sizeAt}
 use Rattle.objects.specs.Objects.{sizeOf, wholeAt, nextAt, foundAt, noRoom, writeOut}
-use Rattle.objects.proofs.Stores.{sets-append}
 use Rattle.objects.proofs.Passed.{IsAt, Fine, at-is, passed, fine-here, fine-next}
 use Rattle.objects.proofs.Trips.{size-is, whole-written, whole-legal, decoded}
 

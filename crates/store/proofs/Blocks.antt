@@ -10,13 +10,13 @@ use lib.ListN.{length, getD, take, drop, replicate, length-append, length-drop, 
 use lib.Seq.{sets, length-sets, length-take-le, take-suc, take-at, getD-take, getD-drop}
 use borrow.Author.Tests.{eq-eqb}
 use Rattle.octets.specs.Octets.{bytesOf}
-use Rattle.octets.proofs.Laws.{length-bytes}
+use Rattle.octets.proofs.Laws.{length-bytes, then-sets}
 use Rattle.arrays.proofs.Fill.{length-pad}
 use Rattle.store.specs.Blocks.{blockBytes, contentBytes, checkAt, isIntact}
 use Rattle.store.specs.Stored.{filled, sealed, sealedFrom}
 use Rattle.store.specs.Loaded.{isBlank}
 use Rattle.store.proofs.Lists.{pad-is}
-use Rattle.store.proofs.Sets.{then-sets, stands, sets-same, sets-over}
+use Rattle.store.proofs.Sets.{stands, sets-same, sets-over}
 use Rattle.store.proofs.Checks.{check-fits, check-moved}
 use Rattle.store.proofs.Stands.{At, at-start, at-left, at-right, at-number, at-blank}
 

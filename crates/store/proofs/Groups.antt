@@ -7,10 +7,10 @@ use mathlib.Core.Path.{_≡_, refl, sym, ap, _∙_}
 use mathlib.Core.List.{List, [], _∷_, _++_, append-nil, append-assoc}
 use lib.ListN.{length, getD, take, drop, length-append, length-take, length-drop, drop-of-length-le}
 use lib.Seq.{sets, drop-cons, drop-drop, take-suc, getD-take, getD-drop}
+use Rattle.octets.proofs.Laws.{then-sets}
 use Rattle.arrays.specs.Every.{Every}
 use Rattle.store.specs.Stored.{joined, groups}
 use Rattle.store.proofs.Lists.{every-take, every-drop}
-use Rattle.store.proofs.Sets.{then-sets}
 use Rattle.store.proofs.Stands.{At, at-left, at-right}
 
 joined-append : (a b : List (List ℕ)) → joined (a ++ b) ≡ joined a ++ joined b

@@ -5,11 +5,10 @@ use mathlib.Core.List.{List, [], _∷_, _++_}
 use lib.ListN.{length, set, length-append}
 use lib.Seq.{sets}
 use Rattle.octets.specs.Octets.{bytesOf}
-use Rattle.octets.proofs.Laws.{length-bytes}
+use Rattle.octets.proofs.Laws.{length-bytes, then-sets}
 use Rattle.client.specs.declared.ClientRecord.{ClientRecord}
 use Rattle.sequence.specs.declared.Step.{Step}
 use Rattle.store.specs.Stored.{headOf, clientBytes, stepBytes}
-use Rattle.store.proofs.Sets.{then-sets}
 
 -- ---- the first block: up to the edition
 

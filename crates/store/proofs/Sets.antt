@@ -1,4 +1,4 @@
--- Laws of `sets`: lists that are stored one after the other, what stands at a place afterwards, and a longer list over a shorter one.
+-- Laws of `sets`: a list that is stored one element after the other, what stands at a place afterwards, and a longer list over a shorter one.
 use Prim.Native.Nat.{ℕ, suc, _+_, _≤_, _<_}
 use native.Mathlib.Nat.{suc-add, add-suc, add-zero}
 use native.Mathlib.Numerals.{add-one}
@@ -7,16 +7,6 @@ use mathlib.Core.Path.{_≡_, refl, sym, ap, _∙_}
 use mathlib.Core.List.{List, [], _∷_, _++_, append-assoc}
 use lib.ListN.{length, getD, take, drop, set, length-drop, drop-of-length-le, take-append-drop}
 use lib.Seq.{sets, sets-eq, set-set, set-comm, drop-cons, drop-at, drop-drop, take-at, length-take-le}
-
--- two lists, the second where the first ends
-sets-append : (l : List ℕ) (i : ℕ) (xs ys : List ℕ) → sets l i (xs ++ ys) ≡ sets (sets l i xs) (i + length xs) ys
-sets-append l i [] ys = ap (λ (j : ℕ). sets l j ys) (sym (add-zero i))
-sets-append l i (x ∷ xs) ys =
-    sets-append (set l i x) (suc i) xs ys ∙ ap (λ (j : ℕ). sets (sets (set l i x) (suc i) xs) j ys) (suc-add i (length xs) ∙ sym (add-suc i (length xs)))
-
--- the same where the first list's length is known
-pub then-sets : (l : List ℕ) (i n : ℕ) (xs ys : List ℕ) → length xs ≡ n → sets l i (xs ++ ys) ≡ sets (sets l i xs) (i + n) ys
-then-sets l i n xs ys e = sets-append l i xs ys ∙ ap (λ (m : ℕ). sets (sets l i xs) (i + m) ys) e
 
 -- ---- one element after the other, from the k-th on
 
