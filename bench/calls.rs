@@ -14,6 +14,7 @@ extern "C" {
     fn scm_write_transfer(pool: *const u8, pool_len: usize, out: *mut u8, len: usize) -> Written;
     fn scm_shown_of(value: u32, offset: i32, scale: f32) -> Shown;
     fn scm_shown_bits(value: u32, offset: i32, scale: u32) -> Shown;
+    fn scm_write_shown(value: u32, offset: i32, scale: f32, decimals: u32, out: *mut u8, out_len: usize) -> Written;
     fn scm_version() -> u32;
 }
 
@@ -77,6 +78,11 @@ pub fn shown_of(value: u32, offset: i32, scale: f32) -> Shown {
 #[inline(never)]
 pub fn shown_bits(value: u32, offset: i32, scale: u32) -> Shown {
     noted(|| unsafe { scm_shown_bits(value, offset, scale) })
+}
+
+#[inline(never)]
+pub fn write_shown(value: u32, offset: i32, scale: f32, decimals: u32, out: &mut [u8]) -> Written {
+    noted(|| unsafe { scm_write_shown(value, offset, scale, decimals, out.as_mut_ptr(), out.len()) })
 }
 
 #[inline(never)]

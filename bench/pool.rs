@@ -10,6 +10,7 @@ use crate::rows::{row, Row};
 use crate::{check, generate};
 use std::cell::RefCell;
 use std::mem::size_of;
+use std::os::raw::{c_char, c_int};
 
 /// How the cases of a full pool begin.
 pub const FULL: &str = "16,384 bytes";
@@ -186,9 +187,13 @@ fn model_transfer((pool, out): &Lent) -> u64 {
 
 fn values() -> Vec<Row> {
     let given: (u32, i32, f32) = (240, -40, 0.1);
+    let text = |case, given, decimals| row(("scm_shown_text", case), 0, to_print(given, decimals), library_text, c_text);
     vec![
         row(("scm_shown", "240 - 40, scale 0.1"), 0, given, library_shown, model_shown),
         row(("scm_shown_bits", "240 - 40, scale 0.1"), 0, given, library_bits, model_shown),
+        text("20.0, beside C's printf", given, 1),
+        text("20.0000003, beside C's printf", given, 7),
+        text("of 57 characters, beside C's printf", (0, i32::MIN, f32::MAX), 7),
         row(("scm_version", ""), 0, (), |_| u64::from(calls::version()), |_| u64::from(library::header_version())),
     ]
 }
@@ -212,4 +217,34 @@ fn model_shown(&(value, offset, scale): &(u32, i32, f32)) -> u64 {
     }
     let sum = i64::from(value) + i64::from(offset);
     (sum as f64 * f64::from(scale)).to_bits()
+}
+
+/// What is shown, with how many decimals, and bytes for its text and a 0.
+type Text = ((u32, i32, f32), u32, RefCell<Vec<u8>>);
+
+fn to_print(given: (u32, i32, f32), decimals: u32) -> Text {
+    (given, decimals, RefCell::new(vec![0; 58]))
+}
+
+fn library_text(&((value, offset, scale), decimals, ref out): &Text) -> u64 {
+    let written = calls::write_shown(value, offset, scale, decimals, &mut out.borrow_mut());
+    told(&out.borrow()[..written.length])
+}
+
+/// The double, which is exact here, printed by the C library.
+fn c_text(&((value, offset, scale), decimals, ref out): &Text) -> u64 {
+    let double = (i64::from(value) + i64::from(offset)) as f64 * f64::from(scale);
+    let (mut out, format) = (out.borrow_mut(), b"%.*f\0".as_ptr().cast());
+    // SAFETY: the format asks for an int and a double, and the room is that of the bytes.
+    let length = unsafe { snprintf(out.as_mut_ptr().cast(), out.len(), format, decimals as c_int, double) };
+    told(&out[..length as usize])
+}
+
+/// A text's length, first and last character.
+fn told(text: &[u8]) -> u64 {
+    (text.len() as u64) << 16 | u64::from(text[0]) << 8 | u64::from(text[text.len() - 1])
+}
+
+extern "C" {
+    fn snprintf(to: *mut c_char, room: usize, format: *const c_char, ...) -> c_int;
 }

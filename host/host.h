@@ -34,7 +34,7 @@ enum pool_slot { POOL_DRILL = 0, POOL_FAN = 1, POOL_CLIENTS = 2 };
 enum pool_function { POOL_GATE = 4, POOL_COULTERS = 5, POOL_BLOWER = 9 };
 enum pool_state { POOL_SHUT = 0, POOL_OPEN = 1, POOL_UP = 1, POOL_DOWN = 2, POOL_SLOW = 1, POOL_FAST = 2 };
 
-#define POOL_TEXT_BYTES 64u         /* enough for each text below */
+#define POOL_TEXT_BYTES 80u         /* enough for each text below; the longest is a shown value with its unit */
 
 struct pool {                       /* a client */
     uint64_t name;
@@ -45,11 +45,13 @@ struct pool {                       /* a client */
 bool pool_make(uint32_t slot, struct pool *pool, struct fault *fault);
 /* The function's object; of kind SCM_OBJECT_NONE where the pool has none. */
 scm_object pool_function(const struct pool *pool, uint8_t function);
-/* For the screen: the client; function and state; the value with its unit, or "-" where the pool says that no number is shown. "?" stands for what the
-   pool does not have. */
+/* For the screen and the sheet: the client; function and state; the value as the library prints it, with its unit, or "-" where the pool says that no
+   number is shown. "?" stands for what the pool does not have. */
 void pool_client_text(const struct pool *pool, char text[POOL_TEXT_BYTES]);
 void pool_step_text(const struct pool *pool, uint8_t function, uint8_t state, char text[POOL_TEXT_BYTES]);
 void pool_shown_text(const struct pool *pool, uint8_t function, uint32_t value, char text[POOL_TEXT_BYTES]);
+/* Whether a double holds the shown value exactly. The text above does not ask: it is never made from one. */
+bool pool_shown_exact(const struct pool *pool, uint8_t function, uint32_t value);
 
 /* ---- events.c: an event, handed to the library and written down */
 
@@ -164,6 +166,7 @@ bool keep_refused(const char *path, size_t length, uint8_t number, struct fault 
 /* ---- sheet.c: the plot sheet, the inspector's answers and the test bench's */
 
 #define SHEET_PLOTS 20u
+#define SHEET_TENTHS_BYTES 16u      /* enough for the text of any number of tenths */
 
 struct sheet_line {                 /* a step of a plot; a tick of 0 has not come yet */
     uint8_t frame[SCM_FRAME_BYTES]; /* slot and E.6, as they first left */
@@ -206,8 +209,11 @@ bool sheet_check(struct sheet *sheet, struct fault *fault);
 void sheet_print(FILE *file, const struct sheet *sheet, bool full);
 /* Whether a step's command left at this tick, for the first time or again. */
 bool sheet_left_at(const struct sheet_line *line, uint32_t tick);
-/* Kilometres an hour on the whole plot. */
-double sheet_speed(const struct sheet_plot *plot);
+/* On the whole plot, to the nearest: tenths of a kilometre an hour, and millimetres a tick. */
+uint32_t sheet_speed(const struct sheet_plot *plot);
+uint32_t sheet_pace(const struct sheet_plot *plot);
+/* Tenths as text: 2.3 of 23. Ticks are tenths of a second. */
+void sheet_tenths_text(uint32_t tenths, char text[SHEET_TENTHS_BYTES]);
 
 /* ---- picture.c: one plot end on a time line, as SVG: that where a step left latest, or that where a first answer took longest */
 

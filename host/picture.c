@@ -73,27 +73,29 @@ static void picture_step_text(const struct picture *p, size_t step, char text[PO
 static void picture_why(const struct picture *p, size_t step, char words[256])
 {
     const struct sheet_line *line = &p->plot->lines[step];
-    uint32_t took = line->answered - line->left;
-    char text[POOL_TEXT_BYTES];
+    uint32_t took = step == p->slowest ? line->answered - line->left : line->late;
+    char text[POOL_TEXT_BYTES], seconds[SHEET_TENTHS_BYTES];
 
     picture_step_text(p, step, text);
+    sheet_tenths_text(took, seconds);
     if (step == p->slowest) {
-        snprintf(words, 256, "Why this plot: in no plot did a first answer take longer than here that to step %zu, %s: %" PRIu32 " ticks (%.1f s). "
-                 "%u are in time.", step + 1, text, took, took / 10.0, SCM_ANSWER_TICKS);
+        snprintf(words, 256, "Why this plot: in no plot did a first answer take longer than here that to step %zu, %s: %" PRIu32 " ticks (%s s). "
+                 "%u are in time.", step + 1, text, took, seconds, SCM_ANSWER_TICKS);
     } else {
-        snprintf(words, 256, "Why this plot: in no plot did a step leave more ticks after it was due than here step %zu, %s: %" PRIu32 " (%.1f s, %" PRIu32
-                 " mm).", step + 1, text, line->late, line->late / 10.0, line->late_mm);
+        snprintf(words, 256, "Why this plot: in no plot did a step leave more ticks after it was due than here step %zu, %s: %" PRIu32 " (%s s, %" PRIu32
+                 " mm).", step + 1, text, took, seconds, line->late_mm);
     }
 }
 
 /* What the picture is: in its title and description, for who cannot see it, and at its top. */
 static void picture_headlines(const struct picture *p, size_t step)
 {
-    char title[160], why[256], text[POOL_TEXT_BYTES], client[POOL_TEXT_BYTES];
+    char title[160], why[256], text[POOL_TEXT_BYTES], client[POOL_TEXT_BYTES], speed[SHEET_TENTHS_BYTES];
 
     pool_shown_text(&p->sheet->clients[POOL_DRILL], POOL_COULTERS, p->plot->depth, text);
-    snprintf(title, sizeof title, "Plot %zu: depth commanded %s, driven at %.1f km/h (%.0f mm a tick)", (size_t)(p->plot - p->sheet->plot) + 1, text,
-             sheet_speed(p->plot), (double)p->plot->distance / p->plot->ticks);
+    sheet_tenths_text(sheet_speed(p->plot), speed);
+    snprintf(title, sizeof title, "Plot %zu: depth commanded %s, driven at %s km/h (%" PRIu32 " mm a tick)", (size_t)(p->plot - p->sheet->plot) + 1, text,
+             speed, sheet_pace(p->plot));
     picture_why(p, step, why);
     fprintf(p->file, "<title id=\"title\">%s</title>\n<desc id=\"desc\">%s A lane for each step, over %" PRIu32 " ticks of a tenth of a second.", title, why,
             p->plot->ticks);
@@ -120,7 +122,7 @@ static void picture_axis(const struct picture *p, int ticks, int seconds)
     for (uint32_t tick = 0; tick <= p->plot->ticks; tick++) {
         snprintf(words, sizeof words, "%" PRIu32, tick);
         picture_text(p->file, "axis", picture_x(tick), ticks, words);
-        snprintf(words, sizeof words, "%.1f", tick / 10.0);
+        sheet_tenths_text(tick, words);
         if (tick % 5 == 0) {
             picture_text(p->file, "axis", picture_x(tick), seconds, words);
         }
@@ -154,7 +156,7 @@ static void picture_label(const struct picture *p, size_t i, int y)
     snprintf(words, sizeof words, "client: %s", text);
     picture_text(p->file, "", 20, y + 42, words);
     pool_shown_text(client, l->command.function, l->command.value, text);
-    snprintf(words, sizeof words, text[0] == '-' ? "value %" PRIu32 : "value %" PRIu32 ", shown %s", l->command.value, text);
+    snprintf(words, sizeof words, text[0] == '-' && text[1] == '\0' ? "value %" PRIu32 : "value %" PRIu32 ", shown %s", l->command.value, text);
     picture_text(p->file, "", 20, y + 60, words);
 }
 

@@ -101,20 +101,30 @@ void pool_step_text(const struct pool *pool, uint8_t function, uint8_t state, ch
     snprintf(text, POOL_TEXT_BYTES, "%s %s", pool_text(owner.name), pool_text(object.name));
 }
 
+/* The library prints the value, from what is kept and the exact scale: a double may be rounded before printf rounds it again. */
 void pool_shown_text(const struct pool *pool, uint8_t function, uint32_t value, char text[POOL_TEXT_BYTES])
 {
     scm_object object = pool_function(pool, function);
+    char number[SCM_SHOWN_BYTES];
     int32_t offset;
     float scale;
-    double shown;
 
     memcpy(&offset, &object.offset, sizeof offset);         /* the object holds their bits */
     memcpy(&scale, &object.scale, sizeof scale);
     if (object.kind == SCM_OBJECT_FUNCTION && object.attribute == SCM_STYLE_HIDDEN) {
         snprintf(text, POOL_TEXT_BYTES, "-");
-    } else if (scm_shown(value, offset, scale, &shown) != SCM_OK) {
+    } else if (scm_shown_text(value, offset, scale, object.decimals, number, sizeof number, NULL) != SCM_OK) {
         snprintf(text, POOL_TEXT_BYTES, "?");
     } else {
-        snprintf(text, POOL_TEXT_BYTES, "%.*f %s", (int)object.decimals, shown, pool_text(object.unit));
+        snprintf(text, POOL_TEXT_BYTES, "%s %s", number, pool_text(object.unit));
     }
+}
+
+bool pool_shown_exact(const struct pool *pool, uint8_t function, uint32_t value)
+{
+    scm_object object = pool_function(pool, function);
+    int32_t offset;
+
+    memcpy(&offset, &object.offset, sizeof offset);
+    return scm_shown_bits(value, offset, object.scale).exact == 1;
 }

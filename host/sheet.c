@@ -204,9 +204,28 @@ bool sheet_check(struct sheet *sheet, struct fault *fault)
     return plot->lowered || fault_say(fault, FAULT_RUN, "plot %zu: the coulters never went down", sheet->plots);
 }
 
-double sheet_speed(const struct sheet_plot *plot)
+/* The nearest whole number, and of two that are equally near the even one, as the library prints. In whole numbers, for a quotient in a double is
+   rounded when it is made, and again when it is printed. */
+static uint32_t sheet_nearest(uint64_t number, uint64_t by)
 {
-    return (double)plot->distance / plot->ticks * 0.036;    /* a millimetre a tick is a centimetre a second */
+    uint64_t whole = number / by, rest = number % by;
+
+    return (uint32_t)(whole + (rest > by - rest || (rest == by - rest && whole % 2 == 1)));
+}
+
+uint32_t sheet_speed(const struct sheet_plot *plot)
+{
+    return sheet_nearest((uint64_t)plot->distance * 9, (uint64_t)plot->ticks * 25);     /* a millimetre a tick is 0.036 km/h, 9 / 25 of a tenth */
+}
+
+uint32_t sheet_pace(const struct sheet_plot *plot)
+{
+    return sheet_nearest(plot->distance, plot->ticks);
+}
+
+void sheet_tenths_text(uint32_t tenths, char text[SHEET_TENTHS_BYTES])
+{
+    snprintf(text, SHEET_TENTHS_BYTES, "%" PRIu32 ".%" PRIu32, tenths / 10, tenths % 10);
 }
 
 static void sheet_print_answers(FILE *f, const struct sheet *sheet)
@@ -215,23 +234,26 @@ static void sheet_print_answers(FILE *f, const struct sheet *sheet)
     uint32_t late = latest->lines[latest->latest].late;
     uint32_t depth = sheet->plot[0].depth;
     size_t alike = 0;
-    char shown[POOL_TEXT_BYTES];
+    char shown[POOL_TEXT_BYTES], seconds[SHEET_TENTHS_BYTES];
 
     for (size_t p = 0; p < sheet->plots; p++) {
         alike += sheet->plot[p].depth == depth;
     }
     pool_shown_text(&sheet->clients[POOL_DRILL], POOL_COULTERS, depth, shown);
+    sheet_tenths_text(late, seconds);
     fprintf(f, "The inspector's three questions\n"
             "1. At what depth was each plot drilled?\n"
             "   Commanded: %s. In %zu of %zu plots the coulters were commanded down to the recorded value, %" PRIu32 ".\n"
-            "   How deep the soil was cut the library does not know.\n", shown, alike, sheet->plots, depth);
+            "   The depth is printed from the exact value, to the nearest last digit. The double for a screen is %s.\n"
+            "   How deep the soil was cut the library does not know.\n", shown, alike, sheet->plots, depth,
+            pool_shown_exact(&sheet->clients[POOL_DRILL], POOL_COULTERS, depth) ? "exact" : "rounded");
     fprintf(f, "2. Was the replayed step the recorded step?\n"
             "   Yes: %zu of %zu commands had the recorded client, function, state and value, and %zu repeats were the same eight bytes again.\n",
             sheet->commands, sheet->steps * sheet->plots, sheet->repeats);
     fprintf(f, "3. How late could it come?\n"
-            "   Here a step left at most %" PRIu32 " ticks (%.1f s) after its own mark was reached, first so in plot %zu, step %zu; and at most %" PRIu32
+            "   Here a step left at most %" PRIu32 " ticks (%s s) after its own mark was reached, first so in plot %zu, step %zu; and at most %" PRIu32
             " mm\n   beyond where it was due, first so in plot %zu, step %zu.\n",
-            late, late / 10.0, sheet->latest_plot + 1, latest->latest + 1, sheet->plot[sheet->furthest_plot].lines[sheet->furthest_step].late_mm,
+            late, seconds, sheet->latest_plot + 1, latest->latest + 1, sheet->plot[sheet->furthest_plot].lines[sheet->furthest_step].late_mm,
             sheet->furthest_plot + 1, sheet->furthest_step + 1);
     fprintf(f, "   Proved for every playback: no step leaves before its mark, and step n leaves at most n - 1 ticks after the last mark of steps 1 to n\n"
             "   was reached; so step %zu at most %zu ticks after all marks were reached.\n", sheet->steps, sheet->steps - 1);
@@ -240,7 +262,7 @@ static void sheet_print_answers(FILE *f, const struct sheet *sheet)
 /* A line for each plot, and the test bench's question. */
 static void sheet_print_plots(FILE *f, const struct sheet *sheet)
 {
-    char shown[POOL_TEXT_BYTES], step[POOL_TEXT_BYTES];
+    char shown[POOL_TEXT_BYTES], step[POOL_TEXT_BYTES], speed[SHEET_TENTHS_BYTES];
 
     fprintf(f, "\nThe plots, a line each. The latest step is the one that left most ticks, of a tenth of a second, after the tick at which it was due;\n"
             "the millimetres are those driven between these two ticks.\n"
@@ -250,8 +272,8 @@ static void sheet_print_plots(FILE *f, const struct sheet *sheet)
         const struct sheet_line *line = &plot->lines[plot->latest];
         pool_shown_text(&sheet->clients[POOL_DRILL], POOL_COULTERS, plot->depth, shown);
         pool_step_text(&sheet->clients[line->frame[0]], line->command.function, line->command.state, step);
-        fprintf(f, "  %4zu  %.1f km/h  %15s  %18" PRIu32 "  %4" PRIu32 "  %4zu  %s\n", p + 1, sheet_speed(plot), shown, line->late, line->late_mm,
-                plot->latest + 1, step);
+        sheet_tenths_text(sheet_speed(plot), speed);
+        fprintf(f, "  %4zu  %s km/h  %15s  %18" PRIu32 "  %4" PRIu32 "  %4zu  %s\n", p + 1, speed, shown, line->late, line->late_mm, plot->latest + 1, step);
     }
     fprintf(f, "\nThe test bench's question\n"
             "   How often does a command leave? Here at most %" PRIu32 " times in a second, which is ten ticks in a row.\n"

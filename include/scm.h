@@ -4,7 +4,7 @@
    enum scm_number (scm_pool_check by a code of D.9; scm_object_at and scm_profile_of, which take any bytes, give nothing of what they cannot read);
    then the master and every lent byte are as they were. There is no start-up call, no global, no heap and no thread here.
 
-   Pointers. A pointer that comes with a length (pool, msg, bytes, out, frames, blocks) is lent memory: it points to that many bytes, and is not
+   Pointers. A pointer that comes with a length (pool, msg, bytes, out, frames, blocks, text) is lent memory: it points to that many bytes, and is not
    NULL, even where the length is 0. A master, and an object or a message that is to be written, is not NULL. What a call reads and what it writes do
    not overlap.
 
@@ -13,8 +13,8 @@
    output is written with number 0 alone, and only where the call says; its other bytes stay.
 
    Wrappers. The archive takes and gives structs by value. The inline functions here stand over its calls (scm_on over scm_master_on) and do nothing
-   but hand over and copy what is wanted; they are what a host calls and what is explained. A call on a master takes up to 130 KB of stack; HOST.md
-   has each one's. */
+   but hand over and copy what is wanted, and scm_shown_text puts a 0 after its text; they are what a host calls and what is explained. A call on a
+   master takes up to 130 KB of stack; HOST.md has each one's. */
 #ifndef SCM_H
 #define SCM_H
 
@@ -48,7 +48,7 @@ extern "C" {
 /* ---- Version */
 
 /* The version of this header: major * 1,000,000 + minor * 1,000 + patch. */
-#define SCM_VERSION 2000000u
+#define SCM_VERSION 2001000u
 
 /* The version of the archive, counted likewise. A host compiled with this header wants SCM_VERSION: compare once, at its start. */
 SCM_MUST_USE uint32_t scm_version(void);
@@ -67,18 +67,20 @@ SCM_MUST_USE uint32_t scm_version(void);
 #define SCM_LAST_TICK      36000u   /* the tick, an hour, at which a recording is thrown away and a playback is aborted */
 #define SCM_BLOCK_BYTES    512u     /* a block of a stored sequence */
 #define SCM_STORE_BYTES    3584u    /* enough for every sequence: seven blocks */
+#define SCM_SHOWN_BYTES    58u      /* enough for every text of a shown value: the longest has 57 characters, and a 0 after them */
 
 /* ---- The numbers that calls give back
 
-   Where several apply: 1, 4, 3, 2, then the rest in the order that the call names them. Every number but SCM_OK leaves the master and all lent memory
-   as they were. While the master is inactive, every event but scm_on gives 2, unless 1, 4 or 3 comes first. */
+   Where several apply: 1, 4, 3, 2, then the rest in the order that the call names them; scm_shown_text alone looks at 4 before 1. Every number but
+   SCM_OK leaves the master and all lent memory as they were. While the master is inactive, every event but scm_on gives 2, unless 1, 4 or 3 comes
+   first. */
 enum scm_number {
     SCM_OK = 0,                     /* done */
     SCM_TOO_SHORT = 1,              /* lent output too short */
     SCM_WRONG_STATE = 2,            /* not allowed in this state */
     SCM_WRONG_SLOT = 3,             /* slot above 7, empty, or (attaching) taken, or NAME already attached; a reader: no such slot, step or command */
     SCM_WRONG_VALUE = 4,            /* message of wrong length, code unknown for its side or call, value not allowed, report of no known state, tick
-                                       of more than 65,535 mm, scale not finite and above zero, object not legal */
+                                       of more than 65,535 mm, scale not finite and above zero, decimals above 7, object not legal */
     SCM_NOT_EXPECTED = 5,           /* message not expected now: send a NACK */
     SCM_POOL_REFUSED = 6,           /* pool refused, with the D.9 code and object number */
     SCM_NO_STEP = 7,                /* sequence has no step */
@@ -493,7 +495,7 @@ typedef struct scm_message_reading {
     scm_message message;
 } scm_message_reading;
 
-/* What writing a message gives by value. */
+/* What writing a message, or the text of a shown value, gives by value. */
 typedef struct scm_written {
     uint8_t number;
     size_t length;
@@ -555,20 +557,22 @@ SCM_MUST_USE static inline uint8_t scm_transfer_write(const uint8_t *pool, size_
 
 /* ---- The shown value: keep the value, not what is shown; no call takes a shown value back */
 
-/* What the calls for the shown value give by value. */
+/* What scm_shown_of and scm_shown_bits give by value. */
 typedef struct scm_shown_value {
     uint8_t number;                 /* 0, or 4: the scale is not finite and above zero */
+    uint8_t exact;                  /* 1 where the double below is the exact product, else 0; with 4 it is 0 */
     double value;                   /* (value + offset) * scale; with 4 it is 0 */
 } scm_shown_value;
 
-/* What scm_shown stands over. */
+/* What scm_shown stands over. It says also whether the double is exact. */
 SCM_MUST_USE scm_shown_value scm_shown_of(uint32_t value, int32_t offset, float scale);
 
-/* As scm_shown, from the scale's 32 bits, as they stand in a pool and in scm_object.scale. The offset there is the bits of an int32_t: cast it. */
+/* As scm_shown_of, from the scale's 32 bits, as they stand in a pool and in scm_object.scale. The offset there is the bits of an int32_t: cast it. */
 SCM_MUST_USE scm_shown_value scm_shown_bits(uint32_t value, int32_t offset, uint32_t scale);
 
-/* The number for the screen, (value + offset) * scale: the sum exact, the product rounded once to a double, and exact where the sum is below 2^29 in
-   magnitude.
+/* The number for the screen, (value + offset) * scale: the sum exact, the product rounded once to a double. It is exact where the sum is below 2^29 in
+   magnitude, and beyond that wherever a double holds the product: exact of scm_shown_of and scm_shown_bits says whether it is. To print it, take the
+   text of scm_shown_text, which is not made from the double.
 
      0  *shown is the shown value
      4  the scale is not finite and above zero, as that of a function of SCM_STYLE_HIDDEN; *shown is 0 */
@@ -579,6 +583,33 @@ SCM_MUST_USE static inline uint8_t scm_shown(uint32_t value, int32_t offset, flo
         *shown = r.value;
     }
     return r.number;
+}
+
+/* What scm_shown_text stands over. It writes the characters alone, with no 0 after them. */
+SCM_MUST_USE scm_written scm_write_shown(uint32_t value, int32_t offset, float scale, uint32_t decimals, uint8_t *out, size_t out_len);
+
+/* The shown value as text, with so many decimals, 0 to 7: of all numbers with these decimals the nearest to (value + offset) * scale, and of two that
+   are equally near the one whose last digit is even. It is made from the exact sum and the exact scale as whole numbers, and not from the double. A
+   minus sign, only where a digit is not zero; at least one digit; with decimals above 0 a point, whatever the locale, and exactly that many digits. A 0
+   stands after the characters, so that C has a string: len counts that byte, and SCM_SHOWN_BYTES are enough for every text. The scale of an object is
+   the bits of a float: copy them into one.
+
+     0  the first *length bytes of text are the characters, the next one is 0, the others stay
+     4  the scale is not finite and above zero, as that of a function of SCM_STYLE_HIDDEN, or decimals is above 7. It comes before 1
+     1  len is below the characters and the 0 after them; len 0 always is, since no text is empty
+
+   *length: with 0 the characters without the 0 after them, 1 to 57; with 4 and 1 it is 0. */
+SCM_MUST_USE static inline uint8_t scm_shown_text(uint32_t value, int32_t offset, float scale, uint32_t decimals, char *text, size_t len,
+                                                  size_t *length)
+{
+    scm_written w = scm_write_shown(value, offset, scale, decimals, (uint8_t *)text, len == 0 ? 0 : len - 1);
+    if (w.number == SCM_OK) {
+        text[w.length] = '\0';
+    }
+    if (length != NULL) {
+        *length = w.length;
+    }
+    return w.number;
 }
 
 /* ---- The master: clients, states, recording and playback
@@ -1405,7 +1436,7 @@ SCM_MUST_USE static inline uint8_t scm_verify(const scm_master *m, scm_check_vie
         FIELD(scm_message, memory, 8) FIELD(scm_message, capability, 12) FIELD(scm_message, step, 24) FIELD(scm_message, label, 36) \
     SIZE(scm_message_reading, 104) FIELD(scm_message_reading, number, 0) FIELD(scm_message_reading, message, 4) \
     SIZE(scm_written, 16) FIELD(scm_written, number, 0) FIELD(scm_written, length, 8) \
-    SIZE(scm_shown_value, 16) FIELD(scm_shown_value, number, 0) FIELD(scm_shown_value, value, 8) \
+    SIZE(scm_shown_value, 16) FIELD(scm_shown_value, number, 0) FIELD(scm_shown_value, exact, 1) FIELD(scm_shown_value, value, 8) \
     SIZE(scm_slot_state, 2464) FIELD(scm_slot_state, taken, 0) FIELD(scm_slot_state, wanted, 1) FIELD(scm_slot_state, report, 2) \
         FIELD(scm_slot_state, name, 8) FIELD(scm_slot_state, profile, 16) \
     SIZE(scm_client_record, 152) FIELD(scm_client_record, used, 0) FIELD(scm_client_record, name, 8) FIELD(scm_client_record, master, 16) \

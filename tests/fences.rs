@@ -93,6 +93,7 @@ pub fn run(arguments: &[&str]) {
         for upper in [true, false] {
             run.pool(upper);
             run.messages(turn as u8, upper);
+            run.texts(upper);
             run.events(&mut masters, upper);
             run.readers(&masters.master(), upper);
         }
@@ -195,6 +196,17 @@ impl Run {
             message.label.length = length;
             library::message_write(&message, self.output.lend(usize::from(length) + 3, upper));
             self.calls += 1;
+        }
+    }
+
+    /// A shown value as text, into each number of bytes up to more than the longest needs.
+    fn texts(&mut self, upper: bool) {
+        let (value, offset, decimals) = (self.random.number() as u32, self.random.number() as i32, self.random.below(9) as u32);
+        let scale = f32::from_bits(self.random.number() as u32 >> 1);
+        for room in 0..=60 {
+            library::shown_text(value, offset, scale, decimals, self.output.lend(room, upper));
+            library::value::shown_text(value, offset, scale, decimals, self.output.lend(room, upper));
+            self.calls += 2;
         }
     }
 

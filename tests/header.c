@@ -30,6 +30,7 @@ const size_t through_layout_rows = sizeof through_layout / sizeof through_layout
 const layout_row through_names[] = {
     NAMED(SCM_SLOTS) NAMED(SCM_STEPS) NAMED(SCM_POOL_BYTES) NAMED(SCM_OBJECT_BYTES) NAMED(SCM_MESSAGE_BYTES) NAMED(SCM_ANSWER_TICKS)
     NAMED(SCM_LAST_TICK) NAMED(SCM_ANSWER_BYTES) NAMED(SCM_FRAME_BYTES) NAMED(SCM_FRAMES_BYTES) NAMED(SCM_BLOCK_BYTES) NAMED(SCM_STORE_BYTES)
+    NAMED(SCM_SHOWN_BYTES)
     NAMED(SCM_OK) NAMED(SCM_TOO_SHORT) NAMED(SCM_WRONG_STATE) NAMED(SCM_WRONG_SLOT) NAMED(SCM_WRONG_VALUE) NAMED(SCM_NOT_EXPECTED)
     NAMED(SCM_POOL_REFUSED) NAMED(SCM_NO_STEP) NAMED(SCM_NOT_ENABLED) NAMED(SCM_NAME_DIFFERS) NAMED(SCM_LABEL_DIFFERS) NAMED(SCM_NOT_IN_POOL)
     NAMED(SCM_NOT_READY) NAMED(SCM_NOT_DISABLED) NAMED(SCM_NO_CLIENT) NAMED(SCM_NO_MATCH) NAMED(SCM_CHECK_WRONG) NAMED(SCM_NOT_STORED)
@@ -106,6 +107,11 @@ THROUGH(void, value_write_transfer, (const uint8_t *pool, size_t len, uint8_t *o
 THROUGH(uint8_t, through_shown, (uint32_t value, int32_t offset, float scale, double *shown), return scm_shown(value, offset, scale, shown))
 THROUGH(void, through_shown_bits, (uint32_t value, int32_t offset, uint32_t scale, scm_shown_value *r), *r = scm_shown_bits(value, offset, scale))
 THROUGH(void, value_shown_of, (uint32_t value, int32_t offset, float scale, scm_shown_value *r), *r = scm_shown_of(value, offset, scale))
+THROUGH(uint8_t, through_shown_text,
+        (uint32_t value, int32_t offset, float scale, uint32_t decimals, char *text, size_t len, size_t *length),
+        return scm_shown_text(value, offset, scale, decimals, text, len, length))
+THROUGH(void, value_write_shown, (uint32_t value, int32_t offset, float scale, uint32_t decimals, uint8_t *out, size_t out_len, scm_written *r),
+        *r = scm_write_shown(value, offset, scale, decimals, out, out_len))
 
 /* ---- The master, as a host calls it */
 THROUGH(void, through_init, (scm_master *m), scm_init(m))

@@ -163,6 +163,7 @@ structs! {
 
     "scm_shown_value" Shown {
         number: u8,
+        exact: u8,
         value: f64,
     }
 
@@ -555,15 +556,20 @@ pub fn transfer_write(pool: &[u8], out: &mut [u8]) -> (u8, usize) {
 extern "C" {
     fn through_shown(value: u32, offset: i32, scale: f32, shown: *mut f64) -> u8;
     fn through_shown_bits(value: u32, offset: i32, scale: u32, shown: *mut Shown);
+    fn through_shown_text(value: u32, offset: i32, scale: f32, decimals: u32, text: *mut c_char, len: usize, length: *mut usize) -> u8;
 }
 
 pub fn shown(value: u32, offset: i32, scale: f32) -> (u8, f64) {
     numbered(|shown| unsafe { through_shown(value, offset, scale, shown) })
 }
 
-pub fn shown_bits(value: u32, offset: i32, scale: u32) -> (u8, f64) {
-    let shown: Shown = into(|shown| unsafe { through_shown_bits(value, offset, scale, shown) });
-    (shown.number, shown.value)
+pub fn shown_bits(value: u32, offset: i32, scale: u32) -> Shown {
+    into(|shown| unsafe { through_shown_bits(value, offset, scale, shown) })
+}
+
+/// The number, and the length.
+pub fn shown_text(value: u32, offset: i32, scale: f32, decimals: u32, text: &mut [u8]) -> (u8, usize) {
+    numbered(|length| unsafe { through_shown_text(value, offset, scale, decimals, text.as_mut_ptr().cast(), text.len(), length) })
 }
 
 // ---- The master, by the wrappers. Each event takes the old state and gives what the wrapper leaves of a copy of it.

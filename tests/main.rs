@@ -3,8 +3,8 @@
 //!   main                        every part, each in one line and what it met
 //!   main long                   the same with many more cases
 //!   main small                  every part with few cases, for a checker of memory
-//!   main PART [COUNT [SEED]]    one part, with so many cases and from such a number: pool, objects, profile, shown, stored, bits, fences,
-//!                               unwanted
+//!   main PART [COUNT [SEED]]    one part, with so many cases and from such a number: pool, objects, profile, shown, printed, stored, bits,
+//!                               fences, unwanted
 //!   main message [COUNT]        so many messages of each clause are tried with every value of every byte
 //!   main layout, texts or names one part
 //!   main master [COUNT]         the cases of 01, then scenarios; fails where something that must be met was not
@@ -23,6 +23,7 @@ mod message;
 mod names;
 mod objects;
 mod pool;
+mod printed;
 mod profile;
 mod shown;
 mod stored;
@@ -41,6 +42,7 @@ const PARTS: &[(&str, Part, &[&str], &[&str])] = &[
     ("profile", profile::run, &["6000"], &["100"]),
     ("message", message::run, &[], &["1"]),
     ("shown", shown::run, &["20000000"], &["10000"]),
+    ("printed", printed::run, &["300000"], &["200"]),
     ("stored", stored::run, &["1000"], &["5"]),
     ("bits", bits::run, &["10000"], &["50"]),
     ("fences", fences::run, &["3000"], &["20"]),

@@ -4,8 +4,8 @@
 use crate::library;
 use std::collections::BTreeMap;
 
-/// 2.0.0: a struct that crosses has grown since 1.1.0.
-const VERSION: u32 = 2_000_000;
+/// 2.1.0: a call has come since 2.0.0, and a field where a struct that crosses had room for it.
+const VERSION: u32 = 2_001_000;
 
 type Names = &'static [(&'static str, usize)];
 
@@ -16,6 +16,8 @@ const NAMES: &[Names] = &[
     &[("SCM_MESSAGE_BYTES", 80), ("SCM_ANSWER_TICKS", 15), ("SCM_LAST_TICK", 36_000)],
     // Document 02: "blocks of 512 bytes"; a sequence has "at most 7" of them.
     &[("SCM_BLOCK_BYTES", 512), ("SCM_STORE_BYTES", 7 * 512)],
+    // "No text is longer than 57 characters", and the wrapper puts a 0 after them.
+    &[("SCM_SHOWN_BYTES", 57 + 1)],
     // E.2, E.5 and E.8. "A tick fills a frame buffer of 576 bytes, nine to a frame".
     &[("SCM_ANSWER_BYTES", 8), ("SCM_FRAME_BYTES", 9), ("SCM_FRAMES_BYTES", 576)],
     // "Numbers a call gives back"

@@ -1,5 +1,5 @@
-//! The shown value of the proved library against Rust's own doubles, bit for bit.
-//! The model below is written from 01, "The shown value", and shares nothing with the library.
+//! The shown value of the proved library against Rust's own doubles, bit for bit, and whether it is exact against whole numbers.
+//! The model below is written from 01, "The shown value", and from 02, request 13, and shares nothing with the library.
 
 use crate::library;
 
@@ -16,8 +16,8 @@ fn model(value: u32, offset: i32, scale: f32) -> (u8, f64) {
     }
 }
 
-/// "Below 2^29 in magnitude of the sum it is exact": a finite positive scale is m · 2^e and a
-/// finite double n · 2^f, so the two sides are compared as whole numbers.
+/// "1 where the double is the exact product": a finite positive scale is m · 2^e and a finite double
+/// n · 2^f, so the two sides are compared as whole numbers.
 fn exact(value: u32, offset: i32, scale: f32, shown: f64) -> bool {
     let sum = i128::from(value) + i128::from(offset);
     let bits = scale.to_bits();
@@ -60,6 +60,9 @@ struct Count {
     cases: u64,
     refused: u64,
     small: u64,
+    exact: u64,
+    large: u64,
+    rounded: u64,
     differences: u64,
 }
 
@@ -68,26 +71,39 @@ impl Count {
         let scale = f32::from_bits(bits);
         let (number, want) = model(value, offset, scale);
         let small = (i64::from(value) + i64::from(offset)).abs() < 1 << 29;
-        self.cases += 1;
-        self.refused += u64::from(number == 4);
-        self.small += u64::from(number == 0 && small);
-        let by_value = library::value::shown(value, offset, scale);
-        let all = [library::shown(value, offset, scale), library::shown_bits(value, offset, bits), (by_value.number, by_value.value)];
-        for (call, got) in ["scm_shown", "scm_shown_bits", "scm_shown_of"].iter().zip(all) {
-            let same = got.0 == number && got.1.to_bits() == want.to_bits();
-            if !same || (number == 0 && small && !exact(value, offset, scale, got.1)) {
+        let exact = number == 0 && exact(value, offset, scale, want);
+        self.count(number, small, exact);
+        let (first, second) = (library::shown_bits(value, offset, bits), library::value::shown(value, offset, scale));
+        // the wrapper does not say whether it is exact
+        let (wrapped, third) = library::shown(value, offset, scale);
+        let all = [(first.number, first.exact, first.value), (second.number, second.exact, second.value), (wrapped, u8::from(exact), third)];
+        for (call, got) in ["scm_shown_bits", "scm_shown_of", "scm_shown"].iter().zip(all) {
+            let same = (got.0, got.1, got.2.to_bits()) == (number, u8::from(exact), want.to_bits());
+            if !same || (number == 0 && small && !exact) {
                 self.differences += 1;
                 if self.differences > 20 {
                     continue;
                 }
                 println!(
-                    "{call}: value {value}, offset {offset}, scale {bits:08X}: {} and {:016X}, not {number} and {:016X}",
+                    "{call}: value {value}, offset {offset}, scale {bits:08X}: {}, exact {}, {:016X}, not {number}, exact {}, {:016X}",
                     got.0,
-                    got.1.to_bits(),
+                    got.1,
+                    got.2.to_bits(),
+                    u8::from(exact),
                     want.to_bits()
                 );
             }
         }
+    }
+
+    /// Below 2^29 in magnitude of the sum, and not.
+    fn count(&mut self, number: u8, small: bool, exact: bool) {
+        self.cases += 1;
+        self.refused += u64::from(number == 4);
+        self.small += u64::from(number == 0 && small);
+        self.exact += u64::from(exact);
+        self.large += u64::from(exact && !small);
+        self.rounded += u64::from(number == 0 && !exact);
     }
 }
 
@@ -132,6 +148,7 @@ pub fn run(arguments: &[&str]) {
         count.try_one(value, offset, scale);
     }
     println!("shown: {} refused with 4, {} below 2^29 held as whole numbers", count.refused, count.small);
+    println!("shown: {} exact, {} of them with a sum of 2^29 and more; {} rounded", count.exact, count.large, count.rounded);
     println!("shown: {} cases, {} differences", count.cases, count.differences);
     if count.differences != 0 {
         crate::fail("shown", "the library and the model differ");

@@ -83,6 +83,9 @@ impl Run {
         let (value, offset) = (self.random.number() as u32, self.random.number() as i32);
         let scale = f32::from_bits(self.random.number() as u32);
         self.same("shown", unwanted::shown(value, offset, scale), library::shown(value, offset, scale).0);
+        let (decimals, room) = (self.random.below(9) as u32, self.random.pick(&[0, 1, 8, 20, 58, 60]));
+        let write = |text: &mut [u8]| library::shown_text(value, offset, scale, decimals, text);
+        self.lent("shown_text", room, write, |text| unwanted::shown_text(value, offset, scale, decimals, text));
     }
 
     fn readers(&mut self, m: &Master) {

@@ -8,7 +8,7 @@ const CALLS: usize = 19;
 const NUMBERS: usize = 18;
 const PATHS: usize = CALLS * NUMBERS * STATES * STATES;
 /// Each of the other tables has a row for each thing counted.
-const ROWS: usize = 19;
+const ROWS: usize = 20;
 const ROW: usize = 256;
 const ALL: usize = PATHS + ROWS * ROW;
 
@@ -56,6 +56,10 @@ pub enum Row {
     Kept,
     /// The numbers of a verification by both rules; editions that were stored, loaded or set, after which.
     Edition,
+    /// The length of a text, by number.
+    Printed,
+    /// What was left out behind the last digit of a text, by decimals and sign, and whether the double is exact.
+    Left,
 }
 
 fn bump(place: usize) {

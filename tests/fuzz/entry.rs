@@ -6,6 +6,7 @@ use crate::decode::{Bytes, Play};
 use crate::message;
 use crate::pair::Pair;
 use crate::pools::{self, Pools};
+use crate::printed;
 use crate::storing::{self, Known};
 use std::cell::RefCell;
 use std::fs::File;
@@ -13,11 +14,12 @@ use std::io::Write;
 use std::os::unix::io::IntoRawFd;
 use std::sync::atomic::{AtomicI32, AtomicPtr, AtomicU64, AtomicUsize, Ordering::Relaxed};
 
-/// The first byte of an input, by five: on a master, on a master, a pool, a message, blocks.
+/// The first byte of an input, by six: on a master, on a master, a pool, a message, blocks, a shown value.
 pub const MASTER: u8 = 0;
 pub const POOL: u8 = 2;
 pub const MESSAGE: u8 = 3;
 pub const BLOCKS: u8 = 4;
+pub const SHOWN: u8 = 5;
 
 /// The input that is being done, and the file that takes it if something is found.
 static INPUT: AtomicPtr<u8> = AtomicPtr::new(std::ptr::null_mut());
@@ -72,10 +74,11 @@ pub fn one_input(input: &[u8]) {
         INPUT.store(input.as_ptr() as *mut u8, Relaxed);
         LENGTH.store(input.len(), Relaxed);
         let mut bytes = Bytes(input);
-        match bytes.byte() % 5 {
+        match bytes.byte() % 6 {
             POOL => pools::judge(&harness.pools, &mut bytes),
             MESSAGE => message::judge(&mut bytes),
             BLOCKS => storing::judge(&mut harness.pair, &harness.known, &mut bytes),
+            SHOWN => printed::judge(&mut bytes),
             _ => Play::new(&mut harness.pair, &harness.pools, &harness.known, bytes).run(),
         }
         LENGTH.store(0, Relaxed);

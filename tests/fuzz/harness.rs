@@ -1,6 +1,6 @@
-//! The fuzzer's harness: any bytes are events on a master, a pool, a message or blocks of a stored sequence; they are done on the library and
-//! on the models of the other tests, all that both give is compared, and the promises of documents 01 and 02 are checked on what the library
-//! gives.
+//! The fuzzer's harness: any bytes are events on a master, a pool, a message, blocks of a stored sequence or a shown value; they are done on the
+//! library and on the models of the other tests, all that both give is compared, and the promises of documents 01 and 02 are checked on what the
+//! library gives.
 //!
 //! An engine calls `LLVMFuzzerTestOneInput`: libFuzzer, or the driver of driver.rs where that is not to be had.
 
@@ -49,6 +49,7 @@ mod pair;
 #[path = "../master/playback.rs"]
 mod playback;
 mod pools;
+mod printed;
 #[allow(dead_code)]
 #[path = "../master/promises.rs"]
 mod promises;

@@ -2,7 +2,7 @@
 
 use crate::decode::op::*;
 use crate::blocks::DAMAGES;
-use crate::entry::{BLOCKS, MASTER, MESSAGE, POOL};
+use crate::entry::{BLOCKS, MASTER, MESSAGE, POOL, SHOWN};
 use crate::pools::OBJECTS;
 use crate::samples::CHANGES;
 use crate::storing::{ANY, DAMAGED, KNOWN, OWN, TURNED};
@@ -50,7 +50,7 @@ fn master(parts: &[&[u8]]) -> Vec<u8> {
 }
 
 pub fn seeds() -> Vec<Vec<u8>> {
-    [recordings(), playbacks(), others(), stores(), editions(), pools(), messages(), blocks()].concat()
+    [recordings(), playbacks(), others(), stores(), editions(), pools(), messages(), blocks(), shown()].concat()
 }
 
 fn recordings() -> Vec<Vec<u8>> {
@@ -208,5 +208,22 @@ fn blocks() -> Vec<Vec<u8>> {
         seeds.extend([0, 1].map(|mended| vec![BLOCKS, 0, KNOWN + 4 + mended, 1, 0, place, 2, 9]));
     }
     seeds.extend((0..9).map(|count| vec![BLOCKS, 0, ANY + count % 2, count, 0, 0, 0, 8, 1, 0, 0, 0, 1, 0, 0, 0]));
+    seeds
+}
+
+/// A value with each known scale and with each number of decimals; ties, from both sides of zero; too many decimals; and the greatest sum and the
+/// least with the greatest scale, with one that just does not print as zero, and with any, into enough and not.
+fn shown() -> Vec<Vec<u8>> {
+    let (most, least) = ([0xFF, 0xFF, 0xFF, 0xFF, 0xFF, 0xFF, 0xFF, 0x7F], [0, 0, 0, 0, 0, 0, 0, 0x80]);
+    let mut seeds: Vec<Vec<u8>> = (0..12).map(|scale| vec![SHOWN, 2 + 16 * scale, 240, 0, scale, 0]).collect();
+    seeds.extend((0..8).map(|decimals| vec![SHOWN, 7, 1, 2, 3, 4, 5, decimals, 0]));
+    seeds.extend([5, 7, 251, 249].map(|halves| vec![SHOWN, 4 + 16, halves, 0, 0]));
+    seeds.extend([1, 3, 255, 253].map(|quarters| vec![SHOWN, 4 + 48, quarters, 1, 0]));
+    seeds.push(vec![SHOWN, 3, 0xFF, 0xFF, 0xFF, 0xFF, 240, 8, 0, 0, 0, 0]);
+    for (sum, lent) in [(most, 0), (least, 0), (most, 64), (least, 128), (most, 192)] {
+        seeds.push([&[SHOWN, 15 + 128][..], &sum, &[7, lent]].concat());
+        seeds.push([&[SHOWN, 15 + 240][..], &sum, &[0xFF, 0xFF, 0x7F, 0x23, 7, lent]].concat());
+        seeds.push([&[SHOWN, 15 + 240][..], &sum, &[0xCD, 0xCC, 0x4C, 0x5E, 7, lent]].concat());
+    }
     seeds
 }

@@ -237,8 +237,12 @@ fn one_message(seen: &mut Seen, sample: &Sample) {
 }
 
 fn shown(seen: &mut Seen) {
-    for (scale, wanted) in [(0.5, (0, 15.0)), (-1.0, (4, 0.0))] {
+    for (scale, wanted) in [(0.5, (0, 1, 15.0)), (-1.0, (4, 0, 0.0))] {
         let value = library::value::shown(40, -10, scale);
-        seen.gives("shown", (value.number, value.value), wanted, &[("scm_shown_value", &["number", "value"])]);
+        seen.gives("shown", (value.number, value.exact, value.value), wanted, &[("scm_shown_value", &["number", "exact", "value"])]);
+    }
+    for (room, wanted) in [(2, (1, 0)), (3, (0, 3))] {
+        let written = library::value::shown_text(250, 0, 0.5, 0, &mut vec![0; room]);
+        seen.gives("shown text", (written.number, written.length), wanted, &[("scm_written", &["number", "length"])]);
     }
 }

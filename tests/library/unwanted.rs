@@ -23,6 +23,10 @@ pub fn shown(value: u32, offset: i32, scale: f32) -> u8 {
     unsafe { through_shown(value, offset, scale, null_mut()) }
 }
 
+pub fn shown_text(value: u32, offset: i32, scale: f32, decimals: u32, text: &mut [u8]) -> u8 {
+    unsafe { through_shown_text(value, offset, scale, decimals, text.as_mut_ptr().cast(), text.len(), null_mut()) }
+}
+
 /// Code and object are not written where they are not wanted.
 pub fn attach(m: &mut Master, slot: usize, name: u64, pool: &[u8], code: Option<&mut u8>, object: Option<&mut u16>) -> u8 {
     let code = code.map_or(null_mut(), |code| code as *mut u8);

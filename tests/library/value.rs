@@ -9,6 +9,7 @@ extern "C" {
     fn value_write(message: *const Message, out: *mut u8, out_len: usize, written: *mut Written);
     fn value_write_transfer(pool: *const u8, len: usize, out: *mut u8, out_len: usize, written: *mut Written);
     fn value_shown_of(value: u32, offset: i32, scale: f32, shown: *mut Shown);
+    fn value_write_shown(value: u32, offset: i32, scale: f32, decimals: u32, out: *mut u8, out_len: usize, written: *mut Written);
     fn value_on(m: *const Master, o: *mut Outcome);
     fn value_off(m: *const Master, o: *mut Outcome);
     fn value_attach(m: *const Master, slot: usize, name: u64, pool: *const u8, len: usize, o: *mut Outcome);
@@ -58,6 +59,10 @@ pub fn transfer_write(pool: &[u8], out: &mut [u8]) -> Written {
 
 pub fn shown(value: u32, offset: i32, scale: f32) -> Shown {
     into(|shown| unsafe { value_shown_of(value, offset, scale, shown) })
+}
+
+pub fn shown_text(value: u32, offset: i32, scale: f32, decimals: u32, out: &mut [u8]) -> Written {
+    into(|written| unsafe { value_write_shown(value, offset, scale, decimals, out.as_mut_ptr(), out.len(), written) })
 }
 
 pub fn on(m: &Master) -> Outcome {

@@ -1,4 +1,5 @@
--- Every call of include/scm.h with its inputs, and what it gives back by the definitions of which the theorems speak.
+-- Every call of include/scm.h with its inputs, and what it gives back by the definitions of which the theorems speak: all but one as functions, the text of
+-- the shown value as a relation.
 use Prim.Native.Nat.{ℕ}
 use mathlib.Core.Path.{_≡_}
 use mathlib.Core.List.{List, []}
@@ -16,6 +17,7 @@ use Rattle.message.specs.{declared.Written.Written, Messages.writtenOf, Message
 use Rattle.message.specs.declared.Message.the-variants.{Transfer}
 use Rattle.flat.specs.{declared.Flat.Flat, declared.FlatReading.FlatReading, Flat.messageFrom, Flat.readingOf}
 use Rattle.shown.specs.{declared.Shown.Shown, Value.shownOf}
+use Rattle.printed.specs.{declared.Printed.Printed, Printing.Prints}
 use Rattle.sequence.specs.{declared.Sequence.Sequence, Sequence.lengthOf, Editions.editionOf}
 use Rattle.recording.specs.declared.Recording.{Recording}
 use Rattle.playback.specs.declared.{Playback.Playback, named.Named.Named}
@@ -26,7 +28,7 @@ use Rattle.events.specs.Events.{Event, on, off, «record», stop, cancel, start
 use Rattle.events.specs.Events.{apply, lentAfter}
 use Rattle.scm.specs.Version.{version}
 
--- a call and its inputs; the bytes lent to write in come last
+-- a call and its inputs, but for scm_write_shown; the bytes lent to write in come last
 pub data Exported : Type 0 where
   -- scm_version
   libraryVersion : Exported
@@ -158,6 +160,15 @@ lentGiven (readSent p i) = []
 abbrev pub Allowed : (c : Exported) → Result c × List ℕ → Type 0
 Allowed c r = (r .0 ≡ given c) × (r .1 ≡ lentGiven c)
 
+-- scm_write_shown: value, offset, scale, decimals, lent bytes. It names the number that is printed by what is true of it, so that it is settled too is a theorem
+abbrev pub AllowedText : ℕ → ℤ → Float → ℕ → List ℕ → Printed × List ℕ → Type 0
+AllowedText value offset scale decimals out r = Prints value offset scale decimals out (r .1) (r .0)
+
 -- "Prove any two outcomes it allows equal"
-abbrev pub Determined : Type 0
-Determined = (c : Exported) (r r′ : Result c × List ℕ) → Allowed c r → Allowed c r′ → r ≡ r′
+pub record Determined : Type 0 where
+  pub calls : (c : Exported) (r r′ : Result c × List ℕ) → Allowed c r → Allowed c r′ → r ≡ r′
+  pub text :
+      (value : ℕ) (offset : ℤ) (scale : Float) (decimals : ℕ) (out : List ℕ) (r r′ : Printed × List ℕ) →
+      AllowedText value offset scale decimals out r →
+      AllowedText value offset scale decimals out r′ →
+      r ≡ r′

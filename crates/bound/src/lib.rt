@@ -1,7 +1,7 @@
 // Each call for C gives back what the definitions say of which the theorems speak: nothing is added here, each function only makes the call.
 ghost use mathlib.Core.List.{[]};
 ghost use Rattle.events.specs.Events.{on, off, «record», stop, cancel, start, abort, attach, enable, disable, report, lost, indication, clientAbort, tick, answer, store, load, edition};
-ghost use Rattle.bound.specs.Exported.{Allowed, Determined};
+ghost use Rattle.bound.specs.Exported.{Allowed, AllowedText, Determined};
 ghost use Rattle.bound.specs.Exported.{libraryVersion, poolCheck, poolKept, objectAt, writeObject, poolRewrite, readMessage, writeMessage, writeTransfer, show, showBits, made, event};
 ghost use Rattle.bound.specs.Exported.{readState, readStepCount, readEdition, readSlot, readStep, readClient, readVerify, readProgress, readTaken, readSent};
 use flat::Flat;
@@ -19,6 +19,7 @@ use message::Written;
 use playback::Playback;
 use playback::named::Named;
 use pool::Verdict;
+use printed::Printed;
 use profile::Profile;
 use recording::Recording;
 use rewrite::Rewritten;
@@ -89,6 +90,12 @@ pub fn shown_bits(value: u32, offset: i32, scale: u32) -> Shown
     ensures { λ r. ⌜ Allowed (showBits value offset scale) (r, []) ⌝ }
 {
     scm::scm_shown_bits(value, offset, scale)
+}
+
+pub fn write_shown(value: u32, offset: i32, scale: f32, decimals: u32, out: &mut [u8]) -> Printed
+    ensures { λ r. ⌜ AllowedText value offset scale decimals (now (out .entry)) (r, now (out .exit)) ⌝ }
+{
+    scm::scm_write_shown(value, offset, scale, decimals, out)
 }
 
 pub fn master_new() -> Master

@@ -1,6 +1,6 @@
 -- The laws by which the loops go: cells that are filled, fields that are stored one after the other, and cells that are blank.
 use Prim.Native.Nat.{ℕ, suc, _+_, _-_, _*_, _≤_, _<_}
-use native.Mathlib.Nat.{suc-add, add-suc, add-zero, le-refl}
+use native.Mathlib.Nat.{add-suc, add-zero, le-refl}
 use native.Mathlib.Numerals.{add-one}
 use native.Mathlib.Omega.{arith}
 use mathlib.Core.Path.{_≡_, refl, sym, ap, _∙_}

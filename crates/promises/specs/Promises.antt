@@ -6,6 +6,7 @@ use Rattle.flat_object.specs.ReadBack as flat-object
 use Rattle.message.specs.{Promises.ComesBack, Promises.Refuses, Clauses.Clauses}
 use Rattle.flat.specs.{Flat.BackAgain, ReadBack.ReadBack}
 use Rattle.shown.specs.{Promises.ShownValue, Examples.ShownExamples}
+use Rattle.printed.specs.{Promises.PrintedText, Examples.PrintedExamples}
 use Rattle.recording.specs.Promises as recording
 use Rattle.store.specs.Promises as store
 use Rattle.playback.specs.Promises.{Verifies, Agrees, Changes, Framing}
@@ -46,9 +47,11 @@ pub record Promises : Type 0 where
   pub clauses : Clauses
   pub flat-again : BackAgain
   pub messages-for-c : ReadBack
-  -- the shown value
+  -- the shown value, and 02, request 13: whether it is exact, and its text
   pub shown : ShownValue
   pub shown-examples : ShownExamples
+  pub printed : PrintedText
+  pub printed-examples : PrintedExamples
   -- "Recording keeps each step as 01 defines it, the 32-bit value untouched.": of one message on any recording, and over every run of calls
   pub recording : recording.Promises
   pub recorded : history.Promises

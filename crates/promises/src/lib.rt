@@ -18,6 +18,8 @@ pub fn promises()
     flat::read_back();
     shown::promises();
     shown::examples();
+    printed::promises();
+    printed::examples();
     recording::promises();
     playback::promises();
     events::promises();

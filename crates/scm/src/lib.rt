@@ -13,6 +13,7 @@ ghost use Rattle.message.specs.declared.Message.the-variants.{Transfer};
 ghost use Rattle.flat.specs.Flat.{messageFrom, readingOf};
 ghost use Rattle.profile.specs.Profile.{profileOf};
 ghost use Rattle.shown.specs.Value.{shownOf, Exact};
+ghost use Rattle.printed.specs.Printing.{Prints};
 ghost use Rattle.sequence.specs.Sequence.{lengthOf};
 ghost use Rattle.sequence.specs.Editions.{editionOf};
 ghost use Rattle.master.specs.States.{newMaster};
@@ -40,14 +41,15 @@ use message::Written;
 use playback::Playback;
 use playback::named::Named;
 use pool::Verdict;
+use printed::Printed;
 use profile::Profile;
 use recording::Recording;
 use rewrite::Rewritten;
 use sequence::Sequence;
 use shown::Shown;
 
-// 2.0.0: major * 1,000,000 + minor * 1,000 + patch.
-const VERSION: u32 = 2000000;
+// 2.1.0: major * 1,000,000 + minor * 1,000 + patch.
+const VERSION: u32 = 2001000;
 
 #[no_mangle]
 pub extern "C" fn scm_version() -> u32
@@ -127,7 +129,7 @@ pub extern "C" fn scm_write_transfer(pool: &[u8], out: &mut [u8]) -> Written
 #[no_mangle]
 pub extern "C" fn scm_shown_of(value: u32, offset: i32, scale: f32) -> Shown
     ensures { λ r. ⌜ r ≡ shownOf value offset scale ⌝ }
-    ensures exact { λ r. ⌜ Exact value offset scale (r .value) ⌝ }
+    ensures exact { λ r. ⌜ Exact value offset scale r ⌝ }
 {
     shown::shown_of(value, offset, scale)
 }
@@ -135,9 +137,23 @@ pub extern "C" fn scm_shown_of(value: u32, offset: i32, scale: f32) -> Shown
 #[no_mangle]
 pub extern "C" fn scm_shown_bits(value: u32, offset: i32, scale: u32) -> Shown
     ensures { λ r. ⌜ r ≡ shownOf value offset (ofBits binary32 scale) ⌝ }
-    ensures exact { λ r. ⌜ Exact value offset (ofBits binary32 scale) (r .value) ⌝ }
+    ensures exact { λ r. ⌜ Exact value offset (ofBits binary32 scale) r ⌝ }
 {
     shown::shown_bits(value, offset, scale)
+}
+
+// The shown value as text.
+#[no_mangle]
+pub extern "C" fn scm_write_shown(
+    value: u32,
+    offset: i32,
+    scale: f32,
+    decimals: u32,
+    out: &mut [u8],
+) -> Printed
+    ensures { λ r. ⌜ Prints value offset scale decimals (now (out .entry)) (now (out .exit)) r ⌝ }
+{
+    printed::print(value, offset, scale, decimals, out)
 }
 
 // ---- The master: each event takes the old state and gives back the new one.

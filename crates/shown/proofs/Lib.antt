@@ -1,4 +1,6 @@
--- The laws behind the two functions. `Bits` says which 32 bits a pool's scale may have.
+-- The laws behind the functions. `Bits` says which 32 bits a pool's scale may have, and `Answers` what exact says.
 pub mod Bits
+mod Zeros
 mod Sum
 mod Product
+pub mod Answers

@@ -1,22 +1,22 @@
--- The f64 product of a whole number and a scale is the exact fraction rounded once; below 2 ^ 29 that is the fraction itself.
+-- The f64 product of a whole number and a scale is the exact fraction rounded once. It is the fraction itself if and only if an f64 holds the size.
 use mathlib.Core.Path.{_≡_, refl, sym, ap, _∙_}
-use Prim.Native.Nat.{ℕ, zero, suc, _+_, _*_, _^_, _≤_, _<_}
-use native.Mathlib.Nat.{le-of-lt, lt-of-lt-of-le, lt-of-le-of-lt, zero-mul, mul-one, mul-comm, mul-assoc, mul-left-comm, mul-pos, mul-le-mul-left, mul-lt-mul-of-pos-right}
+use Prim.Native.Nat.{ℕ, zero, suc, _+_, _*_, _%_, _^_, _<_}
+use native.Mathlib.Nat.{lt-of-lt-of-le, zero-mul, mul-one, mul-comm, mul-assoc, mul-left-comm, mul-right-comm, mul-pos, eq-of-mul-eq-mul-right}
 use native.Mathlib.Omega.{arith}
-use mathlib.Core.Bool.{Bool, true, false, true≢false}
+use mathlib.Core.Bool.{Bool, true, false, _&&_, true≢false}
 use lib.IntN.{ℤ, pos, negsuc, negℤ, _*ℤ_, natAbs}
 use lib.Signed.{mag, natAbs-le}
-use lib.Dec.{T}
-use lib.Pow.{pow-add, pow-pos, pow-mono, shl-lt}
-use lib.Ieee.{Float, nan, inf, fin, binary64, up, down, round, mul, ofInt, ofBits, unlike}
-use lib.Ieee.Fits.{down-pos}
+use lib.Dec.{T, eqb, leb, ltb, ltb→lt, lit<}
+use lib.Pow.{pow-add, pow-mono, shl-lt}
+use lib.Ieee.{Float, nan, inf, fin, binary64, up, down, round, mul, ofInt, unlike, fits}
+use lib.Ieee.Fits.{down-pos, round-fits}
 use lib.Ieee.Exact.{HasValue, round-exact}
 use lib.Ieee.Back.{round-whole}
 use lib.Ieee.Scale.{round-same}
-use lib.Ieee.Positive.{positive, num, den, den-pos, value→cross}
-use Rattle.octets.specs.Numbers.{wrongValue}
-use Rattle.shown.specs.Value.{sumOf, negative, productOf, shownOf, IsProduct, Exact}
+use lib.Ieee.Positive.{positive, num, den, den-pos}
+use Rattle.shown.specs.Value.{negative, productOf, numerator, IsProduct}
 use Rattle.shown.proofs.Bits.{Parts}
+use Rattle.shown.proofs.Zeros.{Held, moved}
 
 -- y is n, with the sign s: times m * 2 ^ e it is n * m * 2 ^ e, rounded
 times : (y : Float) (s : Bool) (n m : ℕ) (e : ℤ) → HasValue y s n 1 → mul binary64 y (fin false m e) ≡ round binary64 s (n * (m * up e)) (down e)
@@ -44,26 +44,23 @@ mul-is z (inf s) h p = absurd p
 mul-is z (fin true m e) h p = absurd p
 mul-is z (fin false m e) h p = times (ofInt binary64 z) (negative z) (natAbs z) m e (whole z h)
 
--- ---- 29 digits of the sum and 24 of the scale are 53 of the product, which is what an f64 holds
-times-lt : (j k : ℕ) {a b : ℕ} → a < 2 ^ j → b < 2 ^ k → a * b < 2 ^ (j + k)
-times-lt j k {a} {b} h l = rw (pow-add 2 j k) (lt-of-le-of-lt (mul-le-mul-left a (le-of-lt l)) (mul-lt-mul-of-pos-right h (pow-pos k)))
-
+-- ---- the exact product is n * q * 2 ^ k / 2 ^ 149, and an f64 holds it if the size n * q has at most 53 digits before zeros
 scaled : (n a d q k i j : ℕ) → a * 2 ^ i ≡ q * 2 ^ k * d → n * a * 2 ^ (i + j) ≡ n * q * 2 ^ (k + j) * d
 scaled n a d q k i j e =
     let left : n * a * 2 ^ (i + j) ≡ a * 2 ^ i * (n * 2 ^ j) = simp (pow-add, mul-assoc, mul-left-comm) in
     let right : n * q * 2 ^ (k + j) * d ≡ q * 2 ^ k * d * (n * 2 ^ j) = simp (pow-add, mul-assoc, mul-comm, mul-left-comm) in
     left ∙ rw e (sym right)
 
-unrounded : (z : ℤ) (x : Float) → Parts x → natAbs z < 2 ^ 29 → HasValue (productOf z x) (negative z) (natAbs z * num x) (den x)
+unrounded : (z : ℤ) (x : Float) (q k : ℕ) → Parts x q k → natAbs z * q < 2 ^ 57 → Held (natAbs z * q) → HasValue (productOf z x) (negative z) (natAbs z * num x) (den x)
 unfolding productOf
-unrounded z x p h =
+unrounded z x q k p h r =
     let n = natAbs z in
-    let few : n * p .q < 2 ^ 53 = times-lt 29 24 h (p .few) in
-    round-exact binary64 (negative z) (n * num x) (den x) (n * p .q) (p .k + 925) (den-pos x) few
-    (lt-of-lt-of-le (shl-lt 53 (p .k + 925) few) (pow-mono {i = 53 + (p .k + 925)} {j = 2098} (omega (arith, p .low))))
-    (scaled n (num x) (den x) (p .q) (p .k) 149 925 (value→cross x (p .q * 2 ^ p .k) (2 ^ 149) (p .is)))
+    let j = k + 925 in
+    let e : r .digits * 2 ^ (r .zeros + j) ≡ n * q * 2 ^ j = rw (pow-add 2 (r .zeros) j, ← mul-assoc, ← r .is) in
+    let small : n * q * 2 ^ j < 2 ^ 2098 = lt-of-lt-of-le (shl-lt 57 j h) (pow-mono {i = 57 + j} {j = 2098} (omega (arith, p .low))) in
+    round-exact binary64 (negative z) (n * num x) (den x) (r .digits) (r .zeros + j) (den-pos x) (r .few) (rw e small) (rw e (scaled n (num x) (den x) q k 149 925 (p .cross)))
 
--- ---- and as an equation of whole numbers
+-- ---- as an equation of whole numbers
 negative-times : (a c : ℕ) → negℤ (pos a) *ℤ pos c ≡ negℤ (pos (a * c))
 negative-times zero c = rw (zero-mul c)
 negative-times (suc a) c = refl
@@ -76,14 +73,53 @@ equation (fin false m e) (negsuc n) x v = absurd (true≢false (sym (v .0)))
 equation (fin true m e) (pos n) x v = absurd (true≢false (v .0))
 equation (fin true m e) (negsuc n) x v = (tt, rw (negative-times, v .1, mul-assoc))
 
--- ---- the two answers: number 0 with the product, and number 4 with 0
-pub exact : (value : ℕ) (offset : ℤ) (x : Float) → Parts x → Exact value offset x (productOf (sumOf value offset) x)
-exact value offset x p u h = let z = sumOf value offset in equation (productOf z x) z x (unrounded z x p h)
+pub exact-where-held : (z : ℤ) (x : Float) (q k : ℕ) → Parts x q k → natAbs z * q < 2 ^ 57 → Held (natAbs z * q) → IsProduct (productOf z x) z x
+exact-where-held z x q k p h r = equation (productOf z x) z x (unrounded z x q k p h r)
 
-zero-bits : ofBits binary64 0 ≡ fin false 0 (pos 0)
-unfolding ofBits
-zero-bits = refl
+-- ---- and only if: the f64 has at most 53 digits itself
+negated-size : (a : ℕ) → natAbs (negℤ (pos a)) ≡ a
+negated-size zero = refl
+negated-size (suc a) = refl
 
-pub refuses : (value : ℕ) (offset : ℤ) (x : Float) → positive x ≡ false
-    → (record { number = wrongValue; value = ofBits binary64 0 } ≡ shownOf value offset x) × Exact value offset x (ofBits binary64 0)
-refuses value offset x e = rw (zero-bits, e) (refl, λ t. absurd t)
+times-size : (z : ℤ) (c : ℕ) → natAbs (z *ℤ pos c) ≡ natAbs z * c
+times-size (pos n) c = refl
+times-size (negsuc n) c = negated-size (suc n * c)
+
+numerator-size : (s : Bool) (m : ℕ) (e : ℤ) → natAbs (numerator (fin s m e)) ≡ m * up e
+numerator-size false m e = refl
+numerator-size true m e = negated-size (m * up e)
+
+second : (a b c d : Bool) → T (a && b && c && d) → T b
+second true true c d t = tt
+second true false c d t = t
+second false b c d t = absurd t
+
+digits-lt : (s : Bool) (m : ℕ) (e : ℤ) → T (fits binary64 (fin s m e)) → m < 2 ^ 53
+unfolding fits
+digits-lt s zero e t = lit< tt
+digits-lt s (suc m) e t =
+    ltb→lt (suc m) (2 ^ 53)
+    (second (eqb (suc m % 2) 1) (ltb (suc m) (2 ^ 53)) (leb (down e) (2 ^ 1074)) (ltb (suc m * up e) (2 ^ 1024 * down e)) t)
+
+-- the scale a / d is q / i, and v / u is n times the scale
+cleared : (n a d q i v u : ℕ) → 0 < d → a * i ≡ q * d → v * d ≡ n * (a * u) → v * i ≡ n * q * u
+cleared n a d q i v u D e f =
+    let left : n * (a * u) * i ≡ a * i * (n * u) = simp (mul-assoc, mul-comm, mul-left-comm) in
+    let right : q * d * (n * u) ≡ n * q * u * d = simp (mul-assoc, mul-comm, mul-left-comm) in
+    eq-of-mul-eq-mul-right d D (v * i) (n * q * u) (mul-right-comm v i d ∙ rw f (left ∙ rw e right))
+
+holds-few : (m size k : ℕ) (e : ℤ) → m < 2 ^ 53 → m * up e * 2 ^ 149 ≡ size * 2 ^ k * down e → Held size
+holds-few m size k (pos a) h e = moved size m (a + 149) k h (rw (pow-add 2 a 149, ← mul-assoc) (e ∙ mul-one (size * 2 ^ k)))
+holds-few m size k (negsuc a) h e = moved size m 149 (k + suc a) h (rw (pow-add 2 k (suc a), ← mul-assoc) (rw (mul-one m) at e))
+
+held : (y : Float) (z : ℤ) (x : Float) (q k : ℕ) → T (fits binary64 y) → Parts x q k → IsProduct y z x → Held (natAbs z * q)
+held nan z x q k f p i = absurd (i .0)
+held (inf s) z x q k f p i = absurd (i .0)
+held (fin s m e) z x q k f p i =
+    let whole : m * up e * den x ≡ natAbs z * (num x * down e) = simp (times-size, numerator-size) at (ap natAbs (i .1)) in
+    let c = cleared (natAbs z) (num x) (den x) (q * 2 ^ k) (2 ^ 149) (m * up e) (down e) (den-pos x) (p .cross) whole in
+    holds-few m (natAbs z * q) k e (digits-lt s m e f) (rw (← mul-assoc (natAbs z) q (2 ^ k)) at c)
+
+pub held-where-exact : (z : ℤ) (x : Float) (q k : ℕ) → Parts x q k → IsProduct (productOf z x) z x → Held (natAbs z * q)
+unfolding productOf
+held-where-exact z x q k p i = held (productOf z x) z x q k (round-fits binary64 (negative z) (natAbs z * num x) (den x)) p i

@@ -1,3 +1,4 @@
 pub mod Value
+pub mod Whole
 pub mod Promises
 pub mod Examples

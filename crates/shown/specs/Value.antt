@@ -2,9 +2,9 @@
 -- A Float is `nan`, `inf s` or `fin s m e`, the number m · 2^e, negative where s is true. Its size is the fraction num / den of whole numbers.
 use mathlib.Core.Path.{_≡_}
 use Prim.Native.Nat.{ℕ, _*_, _^_, _<_}
-use mathlib.Core.Bool.{Bool, true, false, cond}
+use mathlib.Core.Bool.{Bool, true, false, cond, _&&_}
 use lib.IntN.{ℤ, pos, negsuc, negℤ, _+ℤ_, _*ℤ_, natAbs}
-use lib.Dec.{T}
+use lib.Dec.{T, eqb}
 use lib.Ieee.{Float, nan, inf, fin, binary64, up, round}
 use lib.Ieee.Scale.{finite}
 use lib.Ieee.Positive.{positive, num, den}
@@ -33,13 +33,32 @@ numerator (fin true m e) = negℤ (pos (m * up e))
 abbrev pub IsProduct : Float → ℤ → Float → Type 0
 IsProduct x sum scale = T (finite x) × (numerator x *ℤ pos (den scale) ≡ sum *ℤ pos (num scale * den x))
 
--- "Below 2^29 in magnitude of the sum it is exact."
-abbrev pub Exact : ℕ → ℤ → Float → Float → Type 0
-Exact value offset scale x = T (positive scale) → natAbs (sumOf value offset) < 2 ^ 29 → IsProduct x (sumOf value offset) scale
+-- the same as a test: 02, request 13, "The leaf that gives the shown value now says also whether it is exact"
+abbrev pub equal : ℤ → ℤ → Bool
+equal (pos a) (pos b) = eqb a b
+equal (pos a) (negsuc b) = false
+equal (negsuc a) (pos b) = false
+equal (negsuc a) (negsuc b) = eqb a b
 
--- "A scale not finite and above zero, as style 00 has it, gives 4 and value 0." `positive` is finite and above zero.
+abbrev pub isProduct : Float → ℤ → Float → Bool
+isProduct x sum scale = finite x && equal (numerator x *ℤ pos (den scale)) (sum *ℤ pos (num scale * den x))
+
+-- "A scale not finite and above zero, as style 00 has it, gives 4 and value 0." `positive` is finite and above zero. `exact` is 1 where
+-- the f64 is the exact product, else 0; with 4 it is 0.
 abbrev pub shownOf : ℕ → ℤ → Float → Shown
 shownOf value offset scale =
+    let product = productOf (sumOf value offset) scale in
     cond (positive scale)
-    (record { number = completed; value = productOf (sumOf value offset) scale })
-    (record { number = wrongValue; value = fin false 0 (pos 0) })
+    (record { number = completed; exact = cond (isProduct product (sumOf value offset) scale) 1 0; value = product })
+    (record { number = wrongValue; exact = 0; value = fin false 0 (pos 0) })
+
+-- where the scale is finite and above zero
+pub record SaysExact (value : ℕ) (offset : ℤ) (scale : Float) (r : Shown) : Type 0 where
+  -- exact is 1 if and only if the f64 is the exact product
+  pub only : r .exact ≡ 1 → IsProduct (r .value) (sumOf value offset) scale
+  pub every : IsProduct (r .value) (sumOf value offset) scale → r .exact ≡ 1
+  -- "Below 2^29 in magnitude of the sum it is exact."
+  pub small : natAbs (sumOf value offset) < 2 ^ 29 → r .exact ≡ 1
+
+abbrev pub Exact : ℕ → ℤ → Float → Shown → Type 0
+Exact value offset scale r = T (positive scale) → SaysExact value offset scale r

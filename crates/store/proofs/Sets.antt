@@ -1,6 +1,6 @@
 -- Laws of `sets`: a list that is stored one element after the other, what stands at a place afterwards, and a longer list over a shorter one.
 use Prim.Native.Nat.{ℕ, suc, _+_, _≤_, _<_}
-use native.Mathlib.Nat.{suc-add, add-suc, add-zero}
+use native.Mathlib.Nat.{add-zero}
 use native.Mathlib.Numerals.{add-one}
 use native.Mathlib.Omega.{arith}
 use mathlib.Core.Path.{_≡_, refl, sym, ap, _∙_}

@@ -15,7 +15,9 @@ returns c =
     let at-events-promises = at-seen-promises .before in
     let at-playback-promises = at-events-promises .before in
     let at-recording-promises = at-playback-promises .before in
-    let at-shown-examples = at-recording-promises .before in
+    let at-printed-examples = at-recording-promises .before in
+    let at-printed-promises = at-printed-examples .before in
+    let at-shown-examples = at-printed-promises .before in
     let at-shown-promises = at-shown-examples .before in
     let at-flat-read-back = at-shown-promises .before in
     let at-flat-promises = at-flat-read-back .before in
@@ -30,11 +32,11 @@ returns c =
     let at-pool-cases = at-pool-codes .before in
     record {
       determined = c .determined .ensures;
-      calls = at-events-promises .promises6 .ensures;
-      numbers = at-seen-promises .promises7 .ensures .numbers;
-      written = at-seen-promises .promises7 .ensures .written;
-      ways = at-seen-promises .promises7 .ensures .ways;
-      blank-outside = at-seen-promises .promises7 .ensures .blank-outside;
+      calls = at-events-promises .promises7 .ensures;
+      numbers = at-seen-promises .promises8 .ensures .numbers;
+      written = at-seen-promises .promises8 .ensures .written;
+      ways = at-seen-promises .promises8 .ensures .ways;
+      blank-outside = at-seen-promises .promises8 .ensures .blank-outside;
       pools = at-objects-round-trip .round-trip .ensures;
       objects-for-c = at-flat-object .read-back .ensures;
       codes = at-pool-codes .codes .ensures;
@@ -49,19 +51,21 @@ returns c =
       messages-for-c = at-flat-read-back .read-back2 .ensures;
       shown = at-shown-promises .promises3 .ensures;
       shown-examples = at-shown-examples .examples .ensures;
-      recording = at-recording-promises .promises4 .ensures;
-      recorded = at-history-promises .promises8 .ensures;
-      blocks = at-store-promises .promises10 .ensures;
-      verification = at-playback-promises .promises5 .ensures .0;
-      names = at-playback-promises .promises5 .ensures .1 .0;
-      playback = at-plays-promises .promises9 .ensures;
-      frames = at-playback-promises .promises5 .ensures .1 .1 .1 .0;
-      state = at-playback-promises .promises5 .ensures .1 .1 .0;
-      tan = at-seen-promises .promises7 .ensures .tan;
-      all-enabled = at-seen-promises .promises7 .ensures .all-enabled;
-      how-late = how-late (at-plays-promises .promises9 .ensures);
-      replayed = replayed (at-seen-promises .promises7 .ensures .ways) (at-history-promises .promises8 .ensures) (at-plays-promises .promises9 .ensures);
-      cases = record { pools = at-pool-cases .cases .ensures; messages = at-message-promises .promises .ensures .1 .1; answer = at-seen-promises .promises7 .ensures .starred; ticks = at-playback-promises .promises5 .ensures .1 .1 .1 .1 };
+      printed = at-printed-promises .promises4 .ensures;
+      printed-examples = at-printed-examples .examples2 .ensures;
+      recording = at-recording-promises .promises5 .ensures;
+      recorded = at-history-promises .promises9 .ensures;
+      blocks = at-store-promises .promises11 .ensures;
+      verification = at-playback-promises .promises6 .ensures .0;
+      names = at-playback-promises .promises6 .ensures .1 .0;
+      playback = at-plays-promises .promises10 .ensures;
+      frames = at-playback-promises .promises6 .ensures .1 .1 .1 .0;
+      state = at-playback-promises .promises6 .ensures .1 .1 .0;
+      tan = at-seen-promises .promises8 .ensures .tan;
+      all-enabled = at-seen-promises .promises8 .ensures .all-enabled;
+      how-late = how-late (at-plays-promises .promises10 .ensures);
+      replayed = replayed (at-seen-promises .promises8 .ensures .ways) (at-history-promises .promises9 .ensures) (at-plays-promises .promises10 .ensures);
+      cases = record { pools = at-pool-cases .cases .ensures; messages = at-message-promises .promises .ensures .1 .1; answer = at-seen-promises .promises8 .ensures .starred; ticks = at-playback-promises .promises6 .ensures .1 .1 .1 .1 };
       sample = sample;
     }
 
@@ -69,4 +73,4 @@ pub promises-spec : {M : Type 1} → statement M
 promises-spec =
     tie.close
     (tie.spec
-    (λ c κs. search needs) (λ c κs. search needs) (λ c κs. search needs) (λ c κs. search needs) (λ c κs. search needs) (λ c κs. search needs) (λ c κs. search needs) (λ c κs. search needs) (λ c κs. search needs) (λ c κs. search needs) (λ c κs. search needs) (λ c κs. search needs) (λ c κs. search needs) (λ c κs. search needs) (λ c κs. search needs) (λ c κs. search needs) (λ c κs. search needs) (λ c κs. search needs) (λ c κs. search needs) (λ c κs. search needs) (λ c κs. search needs) returns)
+    (λ c κs. search needs) (λ c κs. search needs) (λ c κs. search needs) (λ c κs. search needs) (λ c κs. search needs) (λ c κs. search needs) (λ c κs. search needs) (λ c κs. search needs) (λ c κs. search needs) (λ c κs. search needs) (λ c κs. search needs) (λ c κs. search needs) (λ c κs. search needs) (λ c κs. search needs) (λ c κs. search needs) (λ c κs. search needs) (λ c κs. search needs) (λ c κs. search needs) (λ c κs. search needs) (λ c κs. search needs) (λ c κs. search needs) (λ c κs. search needs) (λ c κs. search needs) returns)

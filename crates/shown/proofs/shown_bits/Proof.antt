@@ -1,52 +1,81 @@
 -- `shown::shown_bits` meets its contract.
 use borrow.Author.Needs.{needs}
 use mathlib.Core.Path.{_≡_, refl, sym, _∙_}
-use mathlib.Core.Bool.{true}
+use Prim.Native.Nat.{ℕ, _*_, _^_, _<_}
+use mathlib.Core.Bool.{Bool, true, false, cond}
 use denote.Floats.{passes}
+use lib.IntN.{natAbs}
 use lib.Ieee.{binary32, ofBits}
 use lib.Ieee.Bits.{nanBits-is}
 use lib.Ieee.Positive.{positive}
-use mir.Syntax.{w32, w64}
-use mir.Facts.{fits-ofZ, sfits-toZ, sfits-widen}
+use mir.Val.{boolByte}
+use mir.Facts.{toZ-ofZ}
 use Rattle.shown.specs.Value.{sumOf}
-use Rattle.shown.proofs.Bits.{parts, number}
-use Rattle.shown.proofs.Sum.{bounded, added-fits, read-back, in-float}
-use Rattle.shown.proofs.Product.{mul-is, exact, refuses}
+use Rattle.shown.specs.Whole.{digitsOf, fractionOf}
+use Rattle.shown.proofs.Bits.{number, size-few}
+use Rattle.shown.proofs.Sum.{bounded, is-sum, sum-in-float}
+use Rattle.shown.proofs.Product.{mul-is}
+use Rattle.shown.proofs.Answers.{shows, refuses}
 use Rattle.shown.proofs.shown_bits.Statement.{statement}
 use Rattle.shown.proofs.shown_bits.Tie as tie
 
+byte : (b : Bool) → boolByte b ≡ cond b 1 0
+byte true = refl
+byte false = refl
+
 finite-above-zero-requires : tie.Need-finite-above-zero-requires
 finite-above-zero-requires c κs = search needs
+
+sum-of-requires : tie.Need-sum-of-requires
+sum-of-requires c κs = search needs
 
 -- where the product is made, the scale is finite and above zero
 taken : (c : tie.Then1) → positive (ofBits binary32 (c .before .before .args .scale)) ≡ true
 taken c = sym (c .before .finite-above-zero .ensures) ∙ c .if1 .taken
 
-cast-sum : tie.Need-cast-sum
-cast-sum c = search needs
-
-cast-sum-2 : tie.Need-cast-sum-2
-cast-sum-2 c = sfits-widen {w = w32} {w′ = w64} tt (sfits-toZ (fits-ofZ (c .before .before .fits .offset)))
-
-add-sum : tie.Need-add-sum
-add-sum c = let s = c .before .before in added-fits (s .fits .value) (s .fits .offset)
-
 int-to-float-product : tie.Need-int-to-float-product
-int-to-float-product c = let s = c .before .before .before in in-float (s .fits .value) (s .fits .offset)
+int-to-float-product c = let s = c .before .before .before .before in sum-in-float (s .fits .value) (s .fits .offset) (c .before .sum-of .ensures)
 
 float-from-bits-product : tie.Need-float-from-bits-product
-float-from-bits-product c = rw (nanBits-is binary32) (number positive (ofBits binary32 (c .before .before .before .args .scale)) refl (taken (c .before)))
+float-from-bits-product c =
+    let t = c .before .before in
+    rw (nanBits-is binary32) (number positive (ofBits binary32 (t .before .before .args .scale)) refl (taken t))
 
 float-to-float-product : tie.Need-float-to-float-product
 float-to-float-product c = search (needs, rw (nanBits-is binary32) at (float-from-bits-product (c .before)))
 
+fraction-of-requires : tie.Need-fraction-of-requires
+fraction-of-requires c κs = search needs
+
+abbrev size : tie.Start → ℕ
+size c = natAbs (sumOf (c .args .value) (c .args .offset)) * digitsOf (c .args .scale)
+
+few : (c : tie.Start) → size c < 2 ^ 57
+few c = size-few (c .args .value) (c .args .offset) (c .args .scale) (c .fits .value .fits) (c .fits .offset .sfits)
+
+-- from the size `held` says whether the product is exact
+size-is : (c : tie.After-fraction-of) → c .fraction-of .result .size ≡ size (c .before .before .before .before .before .before)
+unfolding fractionOf
+size-is c = rw (c .fraction-of .ensures, toZ-ofZ (c .before .before .before .before .before .before .fits .offset))
+
+held-requires : tie.Need-held-requires
+held-requires c κs = rw (size-is c) (few (c .before .before .before .before .before .before))
+
+cast-t13 : tie.Need-cast-t13
+cast-t13 c = search needs
+
 returns : tie.Need-returns
 returns c =
-    let s = c .before .before .before .before in
-    let x = ofBits binary32 (s .args .scale) in
-    let p : positive x ≡ true = taken (c .before .before) in
-    rw (read-back (s .fits .value) (s .fits .offset), mul-is (sumOf (s .args .value) (s .args .offset)) x (bounded (s .fits .value) (s .fits .offset)) (passes _ p))
-    (rw p, exact (s .args .value) (s .args .offset) x (parts (s .args .scale) p))
+    let t = c .before .before .before .before .before in
+    let s = t .before .before in
+    rw (
+      byte (c .held .result),
+      c .held .ensures,
+      size-is (c .before),
+      is-sum (s .fits .value) (s .fits .offset) (c .before .before .before .before .sum-of .ensures),
+      mul-is (sumOf (s .args .value) (s .args .offset)) (ofBits binary32 (s .args .scale)) (bounded (s .fits .value) (s .fits .offset)) (passes _ (taken t)),
+    )
+    (shows (s .args .value) (s .args .offset) (s .args .scale) (taken t) (few s))
 
 returns-2 : tie.Need-returns-2
 returns-2 c = let a = c .before .before .args in refuses (a .value) (a .offset) (ofBits binary32 (a .scale)) (sym (c .before .finite-above-zero .ensures) ∙ c .if1 .left)
@@ -54,4 +83,14 @@ returns-2 c = let a = c .before .before .args in refuses (a .value) (a .offset) 
 pub shown-bits-spec : {M : Type 1} → statement M
 shown-bits-spec =
     tie.close
-    (tie.spec finite-above-zero-requires cast-sum cast-sum-2 add-sum int-to-float-product float-from-bits-product float-to-float-product returns returns-2)
+    (tie.spec
+    finite-above-zero-requires
+    sum-of-requires
+    int-to-float-product
+    float-from-bits-product
+    float-to-float-product
+    fraction-of-requires
+    held-requires
+    cast-t13
+    returns
+    returns-2)

@@ -9,7 +9,7 @@ use lib.Ieee.Compare.{differs-from-itself, nan-differs}
 use lib.Ieee.Positive.{positive}
 use mir.Facts.{toZ-ofZ}
 use Rattle.shown.proofs.Bits.{number}
-use Rattle.shown.proofs.Product.{refuses}
+use Rattle.shown.proofs.Answers.{refuses}
 use Rattle.shown.proofs.shown_of.Statement.{statement}
 use Rattle.shown.proofs.shown_of.Tie as tie
 

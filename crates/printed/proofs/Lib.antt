@@ -1,0 +1,11 @@
+pub mod Rounding
+pub mod Decimal
+pub mod Texts
+pub mod Signs
+pub mod Nearby
+pub mod Reading
+pub mod Sizes
+pub mod Within
+pub mod Made
+pub mod Outcome
+pub mod Refusals
