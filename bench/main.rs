@@ -1,8 +1,8 @@
-//! The library beside the plain models of the tests, in one run: the time of every call and its ratio to the model's, the
-//! share of a tick, how the cost grows with objects and steps, and the bytes that every call moves, in copies of a master,
-//! and that it takes of the stack. Under an emulator only ratios and bytes mean something. With the argument `bytes` it
-//! counts these alone. Fails where library and model differ, where a limit below is missed, and where a cost is plainly
-//! quadratic.
+//! The library beside the plain models of the tests, its texts beside C's printf, in one run: the time of every call and its
+//! ratio to the model's, the share of a tick, how the cost grows with objects and steps, and the bytes that every call
+//! moves, in copies of a master, and that it takes of the stack. Under an emulator only ratios and bytes mean something.
+//! With the argument `bytes` it counts these alone. Fails where library and model differ, where a limit below is missed, and
+//! where a cost is plainly quadratic.
 
 #![deny(warnings)]
 

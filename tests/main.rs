@@ -42,7 +42,7 @@ const PARTS: &[(&str, Part, &[&str], &[&str])] = &[
     ("profile", profile::run, &["6000"], &["100"]),
     ("message", message::run, &[], &["1"]),
     ("shown", shown::run, &["20000000"], &["10000"]),
-    ("printed", printed::run, &["300000"], &["200"]),
+    ("printed", printed::run, &["400000"], &["200"]),
     ("stored", stored::run, &["1000"], &["5"]),
     ("bits", bits::run, &["10000"], &["50"]),
     ("fences", fences::run, &["3000"], &["20"]),

@@ -1,4 +1,4 @@
-//! The same in whole numbers of two: what is true of a printed number, without the printing. The exact value is a whole number of 2^-149, and so is
+//! The same in whole numbers, in binary: what is true of a printed number, without the printing. The exact value is a whole number of 2^-149, and so is
 //! a double that is exact; a text is a whole number of last digits.
 
 use std::cmp::Ordering;

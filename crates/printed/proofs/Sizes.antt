@@ -13,7 +13,7 @@ use lib.Ieee.Nearest.{closest}
 use lib.Ieee.Positive.{positive, num, den, den-pos}
 use Rattle.shown.specs.Value.{sumOf, negative}
 use Rattle.shown.specs.Whole.{digitsOf, powerOf}
-use Rattle.shown.proofs.Bits.{parts, digits-few}
+use Rattle.shown.proofs.Bits.{parts, digits-few, sum-le}
 use Rattle.printed.specs.Number.{Nearest}
 use Rattle.printed.specs.Text.{places, textOf}
 use Rattle.printed.specs.Steps.{signBytes}
@@ -52,14 +52,6 @@ module _ (n sum : ℤ) (bits decimals : ℕ) (p : positive (ofBits binary32 bits
   whole-below = div-le-of-le-mul (10 ^ decimals) (le-trans number-below (le-of-eq (mul-comm (natAbs sum * 2 ^ 128) (10 ^ decimals))))
 
 -- ---- the sum
-sum-most : (v : ℕ) (o : ℤ) → natAbs (sumOf v o) ≤ v + natAbs o
-sum-most v (pos b) = omega arith
-sum-most v (negsuc b) = go (ltb v (suc b))
-  where
-    go : (t : Bool) → natAbs (cond t (negsuc (suc b - suc v)) (pos (v - suc b))) ≤ v + suc b
-    go true = omega arith
-    go false = omega arith
-
 -- below zero it is no larger than the offset
 below-zero : (v : ℕ) (o : ℤ) → negative (sumOf v o) ≡ true → natAbs (sumOf v o) ≤ natAbs o
 below-zero v (pos b) e = absurd (true≢false (sym e))
@@ -82,7 +74,7 @@ module _
     (d : decimals ≤ 7)
     (h : Nearest n (sumOf v o) (ofBits binary32 bits) decimals) where
   sum-below : natAbs (sumOf v o) ≤ 2 ^ 33
-  sum-below = omega (arith, sum-most v o)
+  sum-below = omega (arith, sum-le v o)
 
   pub fits : natAbs n < 10 ^ 56
   fits =

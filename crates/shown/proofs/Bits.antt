@@ -58,7 +58,7 @@ digits-few b = go (eqb (b / 0x80_0000) 0)
     go false = omega arith
 
 -- a sum is no larger than its parts
-sum-le : (v : ℕ) (o : ℤ) → natAbs (sumOf v o) ≤ v + natAbs o
+pub sum-le : (v : ℕ) (o : ℤ) → natAbs (sumOf v o) ≤ v + natAbs o
 sum-le v (pos b) = le-refl (v + b)
 sum-le v (negsuc b) = go (ltb v (suc b))
   where

@@ -1,4 +1,4 @@
--- `printed::laid_out` meets its contract.
+-- `printed::laid_out` meets its contract: the two parts that are made are those of the nearest number, and the digits are taken from it.
 use borrow.Author.Needs.{needs}
 use mathlib.Core.Path.{_≡_, ap, _∙_}
 use Prim.Native.Nat.{ℕ, _^_, _≤_, _<_}

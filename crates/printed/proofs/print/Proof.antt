@@ -1,4 +1,4 @@
--- `printed::print` meets its contract.
+-- `printed::print` meets its contract: a NaN is refused, and any other scale is the value of its bits.
 use borrow.Author.Needs.{needs}
 use mathlib.Core.Path.{ap}
 use mathlib.Core.Bool.{not}

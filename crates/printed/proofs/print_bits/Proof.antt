@@ -1,4 +1,4 @@
--- `printed::print_bits` meets its contract.
+-- `printed::print_bits` meets its contract: by its tests, in their order.
 use borrow.Author.Needs.{needs}
 use mathlib.Core.Path.{_≡_}
 use native.Mathlib.Omega.{arith}

@@ -1,4 +1,4 @@
--- `number::nearest_of` meets its contract: the test is the definition's.
+-- `printed::number::nearest_of` meets its contract: the test is the definition's.
 use borrow.Author.Needs.{needs}
 use Rattle.printed.proofs.number.nearest_of.Statement.{statement}
 use Rattle.printed.proofs.number.nearest_of.Tie as tie

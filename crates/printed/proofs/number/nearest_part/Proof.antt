@@ -1,4 +1,4 @@
--- `number::nearest_part` meets its contract. The product is high · 2 ^ 29 and the last 29 digits of low, and half · 2 ^ 29 is one half of a last digit.
+-- `printed::number::nearest_part` meets its contract. The product is high · 2 ^ 29 and the last 29 digits of low, and half · 2 ^ 29 is one half of a last digit.
 use mathlib.Core.Path.{_≡_, sym, ap, _∙_}
 use Prim.Native.Nat.{ℕ, _+_, _-_, _*_, _/_, _^_, _≤_, _<_}
 use native.Mathlib.Nat.{mul-le-mul, div-le-self, lt-of-le-of-lt}

@@ -1,4 +1,4 @@
--- `number::number_of` meets its contract: from 149 on the power leaves a whole number, below 67 less than half a last digit, and between the two it is split.
+-- `printed::number::number_of` meets its contract: from 149 on the power leaves a whole number, below 67 less than half a last digit, and between the two it is split.
 use mathlib.Core.Path.{_≡_, sym, ap, _∙_}
 use Prim.Native.Nat.{ℕ, _+_, _-_, _*_, _^_, _≤_, _<_}
 use native.Mathlib.Nat.{add-zero, zero-mul, lt-of-lt-of-le, lt-of-le-of-lt, le-trans, le-of-eq, mul-assoc, mul-le-mul-left}

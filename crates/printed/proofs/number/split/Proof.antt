@@ -1,4 +1,4 @@
--- `number::split` meets its contract. A pair of ones is 2 ^ (shift + 1) where 64 bits hold it. Else size is below 2 ^ 63 and below a pair, and nothing is
+-- `printed::number::split` meets its contract. A pair of ones is 2 ^ (shift + 1) where 64 bits hold it. Else size is below 2 ^ 63 and below a pair, and nothing is
 -- taken off.
 use mathlib.Core.Path.{_≡_, refl, _∙_}
 use mathlib.Core.Logic.{⊎-elim}

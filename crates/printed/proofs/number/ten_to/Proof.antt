@@ -1,4 +1,4 @@
--- `number::ten_to` meets its contract. The loop's invariant: after k turns tens is the power of ten of k. The measure is what is left of the decimals.
+-- `printed::number::ten_to` meets its contract. The loop's invariant: after k turns tens is the power of ten of k. The measure is what is left of the decimals.
 use mathlib.Core.Path.{_≡_, refl, _∙_, ap}
 use Prim.Native.Nat.{ℕ, _^_, _-_, _≤_}
 use native.Mathlib.Nat.{pow-le-pow-right, pow-suc}

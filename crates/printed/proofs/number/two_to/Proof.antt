@@ -1,4 +1,4 @@
--- `number::two_to` meets its contract: a one that is shifted by less than 64 loses nothing.
+-- `printed::number::two_to` meets its contract: a one that is shifted by less than 64 loses nothing.
 use mathlib.Core.Path.{_∙_}
 use native.Mathlib.Nat.{one-mul}
 use native.Mathlib.Omega.{arith}
