@@ -73,17 +73,17 @@ static void picture_step_text(const struct picture *p, size_t step, char text[PO
 static void picture_why(const struct picture *p, size_t step, char words[256])
 {
     const struct sheet_line *line = &p->plot->lines[step];
-    uint32_t took = step == p->slowest ? line->answered - line->left : line->late;
+    uint32_t ticks = step == p->slowest ? line->answered - line->left : line->late;
     char text[POOL_TEXT_BYTES], seconds[SHEET_TENTHS_BYTES];
 
     picture_step_text(p, step, text);
-    sheet_tenths_text(took, seconds);
+    sheet_tenths_text(ticks, seconds);
     if (step == p->slowest) {
         snprintf(words, 256, "Why this plot: in no plot did a first answer take longer than here that to step %zu, %s: %" PRIu32 " ticks (%s s). "
-                 "%u are in time.", step + 1, text, took, seconds, SCM_ANSWER_TICKS);
+                 "%u are in time.", step + 1, text, ticks, seconds, SCM_ANSWER_TICKS);
     } else {
         snprintf(words, 256, "Why this plot: in no plot did a step leave more ticks after it was due than here step %zu, %s: %" PRIu32 " (%s s, %" PRIu32
-                 " mm).", step + 1, text, took, seconds, line->late_mm);
+                 " mm).", step + 1, text, ticks, seconds, line->late_mm);
     }
 }
 

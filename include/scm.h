@@ -596,7 +596,7 @@ SCM_MUST_USE scm_written scm_write_shown(uint32_t value, int32_t offset, float s
 
      0  the first *length bytes of text are the characters, the next one is 0, the others stay
      4  the scale is not finite and above zero, as that of a function of SCM_STYLE_HIDDEN, or decimals is above 7. It comes before 1
-     1  len is below the characters and the 0 after them; len 0 always is, since no text is empty
+     1  len is below the characters and the 0 after them, as len 0 always is
 
    *length: with 0 the characters without the 0 after them, 1 to 57; with 4 and 1 it is 0. */
 SCM_MUST_USE static inline uint8_t scm_shown_text(uint32_t value, int32_t offset, float scale, uint32_t decimals, char *text, size_t len,

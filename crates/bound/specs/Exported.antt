@@ -160,7 +160,7 @@ lentGiven (readSent p i) = []
 abbrev pub Allowed : (c : Exported) → Result c × List ℕ → Type 0
 Allowed c r = (r .0 ≡ given c) × (r .1 ≡ lentGiven c)
 
--- scm_write_shown: value, offset, scale, decimals, lent bytes. It names the number that is printed by what is true of it, so that it is settled too is a theorem
+-- scm_write_shown: value, offset, scale, decimals, lent bytes. Its contract says what is true of the printed number; that this settles it is a theorem
 abbrev pub AllowedText : ℕ → ℤ → Float → ℕ → List ℕ → Printed × List ℕ → Type 0
 AllowedText value offset scale decimals out r = Prints value offset scale decimals out (r .1) (r .0)
 

@@ -21,11 +21,6 @@ tens-pos c = one-le-pow c 10 (zero-lt-suc 9)
 
 -- ---- the digits of a number, so many of them
 
-pub length-low : (c n : ℕ) → length (lowDigits c n) ≡ c
-unfolding lowDigits
-length-low zero n = refl
-length-low (suc c) n = ap suc (length-low c (n / 10))
-
 -- digit i is the last of what is left of the number without i digits
 pub digit-at : (c n i : ℕ) → i < c → getD (lowDigits c n) i 0 ≡ n / 10 ^ i % 10
 unfolding lowDigits

@@ -9,3 +9,4 @@ pub mod Within
 pub mod Made
 pub mod Outcome
 pub mod Refusals
+pub mod Shape

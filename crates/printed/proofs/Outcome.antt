@@ -55,22 +55,22 @@ module _ {value : ℕ} {offset : ℤ} {scale : Float} {decimals : ℕ} {x : Laid
   abbrev back : (numberIn (x .digits) ≡ natAbs (l .n)) × (x .digits ≡ lowDigits 56 (numberIn (x .digits)))
   back = number-back (natAbs (l .n)) (x .digits) (l .digits) (l .fits)
 
-  pub room : x .whole + decimals ≤ 56
+  pub room : x .places + decimals ≤ 56
   room =
       let e : 56 ≡ 56 - decimals + decimals = omega arith in
       let h : natAbs (l .n) < 10 ^ (56 - decimals + decimals) = rw (← e) (l .fits) in
-      omega (arith, l .whole, places-least (natAbs (l .n) / 10 ^ decimals) (56 - decimals) (drop-below (natAbs (l .n)) (56 - decimals) decimals h) (omega arith))
+      omega (arith, l .before-point, places-least (natAbs (l .n) / 10 ^ decimals) (56 - decimals) (drop-below (natAbs (l .n)) (56 - decimals) decimals h) (omega arith))
 
   pub its-digits : x .digits ≡ lowDigits 56 (numberIn (x .digits))
   its-digits = back .1
 
-  its-text : signBytes (x .below) ++ lastDigits (x .whole) (numberIn (x .digits) / 10 ^ decimals) ++ partOf decimals (numberIn (x .digits)) ≡ textOf decimals (l .n)
-  its-text = rw (l .below, l .whole, back .0) (sym (text-is decimals (l .n)))
+  its-text : signBytes (x .below) ++ lastDigits (x .places) (numberIn (x .digits) / 10 ^ decimals) ++ partOf decimals (numberIn (x .digits)) ≡ textOf decimals (l .n)
+  its-text = rw (l .below, l .before-point, back .0) (sym (text-is decimals (l .n)))
 
-  its-length : length (signBytes (x .below)) + x .whole + length (partOf decimals 0) ≡ length (textOf decimals (l .n))
-  its-length = rw (l .below, l .whole) (sym (length-text decimals (l .n)))
+  its-length : length (signBytes (x .below)) + x .places + length (partOf decimals 0) ≡ length (textOf decimals (l .n))
+  its-length = rw (l .below, l .before-point) (sym (length-text decimals (l .n)))
 
-  module _ (p : printable scale decimals ≡ true) (lent : List ℕ) (count : ℕ) (c : count ≡ length (signBytes (x .below)) + x .whole + length (partOf decimals 0)) where
+  module _ (p : printable scale decimals ≡ true) (lent : List ℕ) (count : ℕ) (c : count ≡ length (signBytes (x .below)) + x .places + length (partOf decimals 0)) where
     pub too-short : (r : Printed) → length lent < count → r ≡ record { number = tooShort; length = 0 } → Prints value offset scale decimals lent lent r
     unfolding pick
     too-short r h q =
@@ -78,7 +78,7 @@ module _ {value : ℕ} {offset : ℤ} {scale : Float} {decimals : ℕ} {x : Laid
         record { n = l .n; nearest = λ t. l .nearest; answer = rw (p, f) q; leaves = rw (p, f) }
 
     pub written : (left : List ℕ) → count ≤ length lent
-        → left ≡ sets lent 0 (signBytes (x .below) ++ lastDigits (x .whole) (numberIn (x .digits) / 10 ^ decimals) ++ partOf decimals (numberIn (x .digits)))
+        → left ≡ sets lent 0 (signBytes (x .below) ++ lastDigits (x .places) (numberIn (x .digits) / 10 ^ decimals) ++ partOf decimals (numberIn (x .digits)))
         → Prints value offset scale decimals lent left (record { number = completed; length = count })
     unfolding pick
     written left h q =

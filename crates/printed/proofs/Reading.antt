@@ -1,7 +1,7 @@
 -- The text read again: its digits make the number, and a minus sign stands first where the number is below zero.
 use mathlib.Core.Path.{_≡_, refl, sym, ap, _∙_}
 use Prim.Native.Nat.{ℕ, zero, suc, _+_, _-_, _*_, _/_, _%_, _^_, _≤_}
-use native.Mathlib.Nat.{zero-lt-suc, one-le-pow, mod-eq-of-lt, div-add-mod', pow-suc, suc-inj}
+use native.Mathlib.Nat.{zero-lt-suc, mod-eq-of-lt, div-add-mod', pow-suc, suc-inj}
 use native.Mathlib.Omega.{arith}
 use mathlib.Core.Bool.{Bool, true, false, true≢false, cond, _||_}
 use mathlib.Core.List.{List, [], _∷_, _++_}
@@ -12,7 +12,7 @@ use lib.Dec.{T, leb}
 use Rattle.shown.specs.Value.{negative}
 use Rattle.printed.specs.Text.{digit, lastDigits, places, wholeOf, partOf, textOf}
 use Rattle.printed.specs.Promises.{readFrom, hasMinus, notZero}
-use Rattle.printed.proofs.Decimal.{places-pos, places-below}
+use Rattle.printed.proofs.Decimal.{tens-pos, places-pos, places-below}
 use Rattle.printed.proofs.Texts.{first-digit}
 
 -- ---- the digits make the number
@@ -29,7 +29,7 @@ read-digits m zero n = omega arith
 read-digits m (suc count) n =
     read-append m (lastDigits count (n / 10)) (digit n ∷ [])
     ∙ read-digit (readFrom m (lastDigits count (n / 10))) n
-    ∙ rw (read-digits m count (n / 10), pow-suc 10 count, mod-mul n (one-le-pow count 10 (zero-lt-suc 9)) (zero-lt-suc 9)) (omega arith)
+    ∙ rw (read-digits m count (n / 10), pow-suc 10 count, mod-mul n (tens-pos count) (zero-lt-suc 9)) (omega arith)
 
 read-part : (w decimals n : ℕ) → w ≡ n / 10 ^ decimals → readFrom w (partOf decimals n) ≡ n
 read-part w zero n e = e ∙ omega arith

@@ -25,8 +25,11 @@ not-taken bits decimals (inl z) = rw (z, at-zero)
 not-taken bits decimals (inr (inl h)) = rw (positive-bits bits, lt-leb bits 0x7f7f_ffff h, and-false (leb 1 bits))
 not-taken bits decimals (inr (inr h)) = rw (lt-leb decimals 7 h) (and-false (positive (ofBits binary32 bits)))
 
+pub above-zero : (bits : ℕ) → 1 ≤ bits → bits ≤ 0x7f7f_ffff → positive (ofBits binary32 bits) ≡ true
+above-zero bits l h = rw (positive-bits bits, le-leb 1 bits l, le-leb bits 0x7f7f_ffff h)
+
 taken : (bits decimals : ℕ) → 1 ≤ bits → bits ≤ 0x7f7f_ffff → decimals ≤ 7 → printable (ofBits binary32 bits) decimals ≡ true
-taken bits decimals l h d = rw (positive-bits bits, le-leb 1 bits l, le-leb bits 0x7f7f_ffff h, le-leb decimals 7 d)
+taken bits decimals l h d = rw (above-zero bits l h, le-leb decimals 7 d)
 
 module _ {value : ℕ} {offset : ℤ} {bits decimals : ℕ} {lent left : List ℕ} {r : Printed} (p : Prints value offset (ofBits binary32 bits) decimals lent left r) where
   pub four : (bits ≡ 0) ⊎ ((0x7f7f_ffff < bits) ⊎ (7 < decimals)) → (r .number ≡ 4) × (r .length ≡ 0) × (left ≡ lent)

@@ -1,13 +1,14 @@
 -- Distances of numbers with signs: of two of one sign the sizes are subtracted, of two signs they are added.
 use mathlib.Core.Path.{_≡_, refl, sym, ap, _∙_}
 use Prim.Native.Nat.{ℕ, zero, suc, _+_, _-_, _*_}
-use native.Mathlib.Nat.{zero-mul, add-mul, mul-assoc, mul-comm, mul-sub}
+use native.Mathlib.Nat.{add-mul, mul-assoc, mul-comm, mul-sub}
 use native.Mathlib.Omega.{arith}
 use mathlib.Core.Bool.{Bool, true, false, cond, not, _&&_}
 use borrow.Author.Tests.{ltb-true, ltb-false, ne-eqb}
 use lib.IntN.{ℤ, pos, negsuc, negℤ, _+ℤ_, _-ℤ_, _*ℤ_, natAbs, negℤ-+ℤ}
 use lib.Dec.{ltb, eqb}
 use Rattle.shown.specs.Value.{negative}
+use Rattle.shown.proofs.Signs.{negated-size, negated-times}
 
 abbrev pub apart : ℕ → ℕ → ℕ
 apart a b = (a - b) + (b - a)
@@ -22,14 +23,9 @@ spread false true a b = a + b
 spread true false a b = a + b
 spread true true a b = apart a b
 
-natAbs-neg : (z : ℤ) → natAbs (negℤ z) ≡ natAbs z
-natAbs-neg (pos zero) = refl
-natAbs-neg (pos (suc n)) = refl
-natAbs-neg (negsuc n) = refl
-
 pub size-signed : (s : Bool) (n : ℕ) → natAbs (signed s n) ≡ n
 size-signed false n = refl
-size-signed true n = natAbs-neg (pos n)
+size-signed true n = negated-size (pos n)
 
 pub negative-signed : (s : Bool) (n : ℕ) → negative (signed s n) ≡ s && not (eqb n 0)
 negative-signed false n = refl
@@ -50,7 +46,7 @@ plus a (suc b) = refl
 
 -- both turned round
 turned : (x y : ℤ) → natAbs (negℤ x +ℤ negℤ y) ≡ natAbs (x +ℤ y)
-turned x y = ap natAbs (sym (negℤ-+ℤ x y)) ∙ natAbs-neg (x +ℤ y)
+turned x y = ap natAbs (sym (negℤ-+ℤ x y)) ∙ negated-size (x +ℤ y)
 
 pub spread-is : (x y : ℤ) (j k : ℕ) → natAbs (x *ℤ pos j -ℤ y *ℤ pos k) ≡ spread (negative x) (negative y) (natAbs x * j) (natAbs y * k)
 spread-is (pos a) (pos b) j k = minus (a * j) (b * k)
@@ -80,8 +76,7 @@ common x y j k m =
 -- one factor after the other
 signed-times : (s : Bool) (n k : ℕ) → signed s n *ℤ pos k ≡ signed s (n * k)
 signed-times false n k = refl
-signed-times true zero k = rw (zero-mul k)
-signed-times true (suc n) k = refl
+signed-times true n k = negated-times n k
 
 pub times-times : (z : ℤ) (a b : ℕ) → z *ℤ pos a *ℤ pos b ≡ z *ℤ pos (a * b)
 times-times (pos n) a b = ap pos (mul-assoc n a b)

@@ -8,12 +8,12 @@ use lib.Ieee.{Float}
 use lib.Ieee.Positive.{num, den}
 
 -- "from the exact sum and the exact scale as whole numbers, not from the f64": the fraction's upper number
-abbrev pub lastDigitsIn : ℤ → Float → ℕ → ℤ
-lastDigitsIn sum scale decimals = sum *ℤ pos (num scale * 10 ^ decimals)
+abbrev pub upperNumber : ℤ → Float → ℕ → ℤ
+upperNumber sum scale decimals = sum *ℤ pos (num scale * 10 ^ decimals)
 
 -- how far n is from it; den scale is one last digit
 abbrev pub distance : ℤ → ℤ → Float → ℕ → ℕ
-distance n sum scale decimals = natAbs (n *ℤ pos (den scale) -ℤ lastDigitsIn sum scale decimals)
+distance n sum scale decimals = natAbs (n *ℤ pos (den scale) -ℤ upperNumber sum scale decimals)
 
 pub record Nearest (n sum : ℤ) (scale : Float) (decimals : ℕ) : Type 0 where
   -- "nearest": twice the distance is at most one last digit

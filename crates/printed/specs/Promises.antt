@@ -2,14 +2,14 @@
 -- these statements.
 use mathlib.Core.Path.{_≡_}
 use Prim.Native.Nat.{ℕ, _+_, _*_, _-_, _^_, _≤_, _<_}
-use mathlib.Core.Bool.{Bool, false, cond, _||_}
+use mathlib.Core.Bool.{Bool, true, false, cond, not, _&&_, _||_}
 use mathlib.Core.List.{List, [], _∷_, _++_}
 use mathlib.Core.Logic.{_⊎_}
 use lib.IntN.{ℤ, pos, _-ℤ_, _*ℤ_, natAbs}
 use lib.Dec.{T, leb, eqb}
 use lib.ListN.{length, drop}
 use lib.Ieee.{Float, binary32, ofBits}
-use lib.Ieee.Positive.{positive, den}
+use lib.Ieee.Positive.{den}
 use Rattle.shown.specs.Value.{sumOf, numerator, shownOf}
 use Rattle.printed.specs.Number.{Nearest}
 use Rattle.printed.specs.Text.{minus, textOf}
@@ -33,6 +33,28 @@ hasMinus (c ∷ text) = eqb c minus
 abbrev pub notZero : List ℕ → Bool
 notZero [] = false
 notZero (c ∷ text) = leb 49 c || notZero text
+
+-- every byte is a digit; there is one, and the first of several is not zero
+abbrev pub areDigits : List ℕ → Bool
+areDigits [] = true
+areDigits (c ∷ text) = leb 48 c && leb c 57 && areDigits text
+
+abbrev pub wellBegun : List ℕ → Bool
+wellBegun [] = false
+wellBegun (c ∷ []) = true
+wellBegun (c ∷ d ∷ text) = not (eqb c 48)
+
+-- "A minus sign, at least one digit, and with decimals above 0 a point and exactly that many digits."
+pub record Shaped (decimals : ℕ) (text : List ℕ) : Type 0 where
+  pub sign : List ℕ
+  pub whole : List ℕ
+  pub part : List ℕ
+  pub is : text ≡ sign ++ whole ++ part
+  pub one-sign : (sign ≡ []) ⊎ (sign ≡ 45 ∷ [])
+  pub digits : areDigits whole ≡ true
+  pub begun : wellBegun whole ≡ true
+  pub none-behind : decimals ≡ 0 → part ≡ []
+  pub behind : 0 < decimals → (tail : List ℕ) × (part ≡ 46 ∷ tail) × (length tail ≡ decimals) × (areDigits tail ≡ true)
 
 pub record PrintedText : Type 0 where
   -- "nearest, ties to the even last digit": there is one such number, and no other
@@ -80,13 +102,14 @@ pub record PrintedText : Type 0 where
   pub minus-sign : (decimals : ℕ) (n : ℤ) → T (hasMinus (textOf decimals n)) → T (notZero (textOf decimals n))
   pub reads : (decimals : ℕ) (n : ℤ) → readFrom 0 (textOf decimals n) ≡ natAbs n
   pub tells : (decimals : ℕ) (n m : ℤ) → textOf decimals n ≡ textOf decimals m → n ≡ m
-  -- no text is empty, none is longer than 57 characters
-  pub character : (decimals : ℕ) (n : ℤ) → 1 ≤ length (textOf decimals n)
+  -- what a text looks like; none is longer than 57 characters
+  pub shaped : (decimals : ℕ) (n : ℤ) → Shaped decimals (textOf decimals n)
   pub longest :
       (value : ℕ) (offset : ℤ) (bits decimals : ℕ) (n : ℤ) →
       value < 2 ^ 32 →
       natAbs offset ≤ 2 ^ 31 →
-      T (positive (ofBits binary32 bits)) →
+      1 ≤ bits →
+      bits ≤ 0x7F7F_FFFF →
       decimals ≤ 7 →
       Nearest n (sumOf value offset) (ofBits binary32 bits) decimals →
       length (textOf decimals n) ≤ 57

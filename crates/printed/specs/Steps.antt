@@ -18,8 +18,8 @@ abbrev pub roundHalves : ℕ → Bool → ℕ
 roundHalves halves more = cond (eqb (halves % 4) 1 && not more) (halves / 2) ((halves + 1) / 2)
 
 -- a number in two parts: whole · 2 ^ power before the point and part behind it, in last digits of which tens are one
-abbrev pub valueOf : Number → ℕ → ℕ
-valueOf x tens = x .whole * 2 ^ x .power * tens + x .part
+abbrev pub together : Number → ℕ → ℕ
+together x tens = x .whole * 2 ^ x .power * tens + x .part
 
 -- size / 2 ^ shift is printed as x
 pub record Splits (size shift tens : ℕ) (x : Number) : Type 0 where
@@ -30,7 +30,7 @@ pub record Splits (size shift tens : ℕ) (x : Number) : Type 0 where
 
 -- size · 2 ^ power / 2 ^ 149 is printed as x
 pub record Rounds (size power tens : ℕ) (x : Number) : Type 0 where
-  pub is : valueOf x tens ≡ closest (size * 2 ^ power * tens) (2 ^ 149)
+  pub is : together x tens ≡ closest (size * 2 ^ power * tens) (2 ^ 149)
   pub part-below : x .part < tens
   pub whole-below : x .whole < 2 ^ 57
   pub power-below : x .power < 105
@@ -57,4 +57,4 @@ pub record LaidOut (value : ℕ) (offset : ℤ) (scale : Float) (decimals : ℕ)
   pub below : x .below ≡ negative n
   pub digits : x .digits ≡ lowDigits 56 (natAbs n)
   pub fits : natAbs n < 10 ^ 56
-  pub whole : x .whole ≡ places (natAbs n / 10 ^ decimals)
+  pub before-point : x .places ≡ places (natAbs n / 10 ^ decimals)

@@ -2,7 +2,7 @@
 ghost use mathlib.Core.Path.{_≡_};
 ghost use Prim.Native.Nat.{_+_, _*_, _/_, _^_, _<_, _≤_};
 ghost use Rattle.printed.specs.Text.{places};
-ghost use Rattle.printed.specs.Steps.{valueOf, lowDigits, numberIn};
+ghost use Rattle.printed.specs.Steps.{together, lowDigits, numberIn};
 use crate::number::Number;
 use crate::number::two_to;
 
@@ -37,7 +37,7 @@ fn doubled(digits: [u8; 56], power: u64) -> [u8; 56]
 
 pub fn digits_of(number: Number, tens: u64) -> [u8; 56]
     requires { ⌜ (number .whole < 2 ^ 57) × (number .power < 105) × (number .part < 2 ^ 57) × (tens ≤ 10 ^ 7) ⌝ }
-    ensures { λ r. ⌜ r ≡ lowDigits 56 (valueOf number tens) ⌝ }
+    ensures { λ r. ⌜ r ≡ lowDigits 56 (together number tens) ⌝ }
 {
     let whole = scaled([0u8; 56], 0, number.whole);
     let doubles = doubled(whole, number.power);

@@ -12,9 +12,9 @@ use octets::numbers::DONE;
 use octets::numbers::TOO_SHORT;
 use octets::numbers::WRONG_VALUE;
 
-pub mod digits;
-pub mod number;
-pub mod text;
+mod digits;
+mod number;
+mod text;
 
 // Number 0 and how many bytes of text were written, or the refusal and length 0.
 #[repr(C)]
@@ -23,10 +23,10 @@ pub struct Printed {
     pub length: usize,
 }
 
-// What is written: a minus sign or none, so many digits before the point, and the digits, the lowest first.
+// What is written: a minus sign or none, so many places before the point, and the digits, the lowest first.
 pub struct Laid {
     pub below: bool,
-    pub whole: usize,
+    pub places: usize,
     pub digits: [u8; 56],
 }
 
@@ -44,19 +44,19 @@ fn laid_out(value: u32, offset: i32, scale: u32, decimals: u32) -> Laid
     requires { ⌜ (positive (ofBits binary32 scale) ≡ true) × (decimals ≤ 7) ⌝ }
     ensures { λ r. ⌜ LaidOut value offset (ofBits binary32 scale) decimals r ⌝ }
 {
-    let exact = shown::fraction_of(value, offset, scale);
+    let fraction = shown::fraction_of(value, offset, scale);
     let tens = number::ten_to(decimals);
-    let printed = number::number_of(exact.size, exact.power, tens);
+    let printed = number::number_of(fraction.size, fraction.power, tens);
     let digits = digits::digits_of(printed, tens);
     Laid {
-        below: exact.below & ((printed.whole != 0) | (printed.part != 0)),
-        whole: digits::places_of(digits, decimals as usize),
+        below: fraction.below & ((printed.whole != 0) | (printed.part != 0)),
+        places: digits::places_of(digits, decimals as usize),
         digits: digits,
     }
 }
 
 // From the scale's 32 bits.
-pub fn print_bits(value: u32, offset: i32, scale: u32, decimals: u32, out: &mut [u8]) -> Printed
+fn print_bits(value: u32, offset: i32, scale: u32, decimals: u32, out: &mut [u8]) -> Printed
     ensures { λ r. ⌜ Prints value offset (ofBits binary32 scale) decimals (now (out .entry)) (now (out .exit)) r ⌝ }
 {
     if !shown::finite_above_zero(scale) {
@@ -66,12 +66,12 @@ pub fn print_bits(value: u32, offset: i32, scale: u32, decimals: u32, out: &mut 
         return refused(WRONG_VALUE);
     }
     let laid = laid_out(value, offset, scale, decimals);
-    let length = text::length_of(laid.below, laid.whole, decimals as usize);
+    let length = text::length_of(laid.below, laid.places, decimals as usize);
     if out.len() < length {
         return refused(TOO_SHORT);
     }
     let digits = laid.digits;
-    text::put(out, laid.below, laid.whole, digits, decimals as usize);
+    text::put(out, laid.below, laid.places, digits, decimals as usize);
     Printed {
         number: DONE,
         length: length,

@@ -4,7 +4,7 @@ ghost use Prim.Native.Nat.{_*_, _^_, _<_, _≤_};
 ghost use lib.Ieee.Nearest.{closest};
 ghost use Rattle.printed.specs.Steps.{roundHalves, Splits, Rounds};
 
-// whole * 2^power before the point, and part behind it.
+// whole * 2^power before the point, and part behind it, in last digits.
 pub struct Number {
     pub whole: u64,
     pub power: u64,
@@ -56,7 +56,8 @@ fn nearest_part(rest: u64, shift: u64, tens: u64) -> u64
     nearest_of(high / half, more)
 }
 
-// size * tens / 2^shift. Pairs of ones are even in last digits, so they are taken off first, and what is rounded stays small.
+// size * tens / 2^shift. Pairs of ones are even in last digits, so they are taken off first, and what is rounded stays small. Where 64 bits do not hold
+// a pair, the size is below one, and nothing is taken off.
 fn split(size: u64, shift: u64, tens: u64) -> Number
     requires { ⌜ (size < 2 ^ 57) × (1 ≤ shift) × (shift ≤ 82) × (1 ≤ tens) × (tens ≤ 10 ^ 7) ⌝ }
     ensures { λ r. ⌜ Splits size shift tens r ⌝ }
@@ -75,6 +76,7 @@ fn split(size: u64, shift: u64, tens: u64) -> Number
     }
 }
 
+// From 149 on it is whole; below 67 it is less than half a last digit, whatever the size and the decimals.
 pub fn number_of(size: u64, power: u64, tens: u64) -> Number
     requires { ⌜ (size < 2 ^ 57) × (power < 254) × (1 ≤ tens) × (tens ≤ 10 ^ 7) ⌝ }
     ensures { λ r. ⌜ Rounds size power tens r ⌝ }

@@ -27,11 +27,11 @@ fn part_length(decimals: usize) -> usize
     if decimals == 0 { 0 } else { decimals + 1 }
 }
 
-pub fn length_of(below: bool, whole: usize, decimals: usize) -> usize
-    requires { ⌜ (whole ≤ 56) × (decimals ≤ 7) ⌝ }
-    ensures { λ r. ⌜ r ≡ length (signBytes below) + whole + length (partOf decimals 0) ⌝ }
+pub fn length_of(below: bool, places: usize, decimals: usize) -> usize
+    requires { ⌜ (places ≤ 56) × (decimals ≤ 7) ⌝ }
+    ensures { λ r. ⌜ r ≡ length (signBytes below) + places + length (partOf decimals 0) ⌝ }
 {
-    sign_length(below) + whole + part_length(decimals)
+    sign_length(below) + places + part_length(decimals)
 }
 
 // So many digits from the given one on, the highest first, from a place of out on.
@@ -65,12 +65,12 @@ fn put_part(out: &mut [u8], place: usize, digits: [u8; 56], decimals: usize)
     }
 }
 
-pub fn put(out: &mut [u8], below: bool, whole: usize, digits: [u8; 56], decimals: usize)
-    requires { ⌜ (whole + decimals ≤ 56) × (decimals ≤ 7) × (digits ≡ lowDigits 56 (numberIn digits)) ⌝ }
-    ensures { λ _. ⌜ now (out .exit) ≡ sets (now (out .entry)) 0 (signBytes below ++ lastDigits whole (numberIn digits / 10 ^ decimals) ++ partOf decimals (numberIn digits)) ⌝ }
+pub fn put(out: &mut [u8], below: bool, places: usize, digits: [u8; 56], decimals: usize)
+    requires { ⌜ (places + decimals ≤ 56) × (decimals ≤ 7) × (digits ≡ lowDigits 56 (numberIn digits)) ⌝ }
+    ensures { λ _. ⌜ now (out .exit) ≡ sets (now (out .entry)) 0 (signBytes below ++ lastDigits places (numberIn digits / 10 ^ decimals) ++ partOf decimals (numberIn digits)) ⌝ }
 {
     let sign = sign_length(below);
     put_sign(out, below);
-    put_digits(out, sign, digits, decimals, whole);
-    put_part(out, sign + whole, digits, decimals);
+    put_digits(out, sign, digits, decimals, places);
+    put_part(out, sign + places, digits, decimals);
 }

@@ -1,10 +1,10 @@
 -- The f64 product of a whole number and a scale is the exact fraction rounded once. It is the fraction itself if and only if an f64 holds the size.
 use mathlib.Core.Path.{_≡_, refl, sym, ap, _∙_}
 use Prim.Native.Nat.{ℕ, zero, suc, _+_, _*_, _%_, _^_, _<_}
-use native.Mathlib.Nat.{lt-of-lt-of-le, zero-mul, mul-one, mul-comm, mul-assoc, mul-left-comm, mul-right-comm, mul-pos, eq-of-mul-eq-mul-right}
+use native.Mathlib.Nat.{lt-of-lt-of-le, mul-one, mul-comm, mul-assoc, mul-left-comm, mul-right-comm, mul-pos, eq-of-mul-eq-mul-right}
 use native.Mathlib.Omega.{arith}
 use mathlib.Core.Bool.{Bool, true, false, _&&_, true≢false}
-use lib.IntN.{ℤ, pos, negsuc, negℤ, _*ℤ_, natAbs}
+use lib.IntN.{ℤ, pos, negsuc, _*ℤ_, natAbs}
 use lib.Signed.{mag, natAbs-le}
 use lib.Dec.{T, eqb, leb, ltb, ltb→lt, lit<}
 use lib.Pow.{pow-add, pow-mono, shl-lt}
@@ -15,6 +15,7 @@ use lib.Ieee.Back.{round-whole}
 use lib.Ieee.Scale.{round-same}
 use lib.Ieee.Positive.{positive, num, den, den-pos}
 use Rattle.shown.specs.Value.{negative, productOf, numerator, IsProduct}
+use Rattle.shown.proofs.Signs.{negated-size, negated-times}
 use Rattle.shown.proofs.Bits.{Parts}
 use Rattle.shown.proofs.Zeros.{Held, moved}
 
@@ -61,33 +62,25 @@ unrounded z x q k p h r =
     round-exact binary64 (negative z) (n * num x) (den x) (r .digits) (r .zeros + j) (den-pos x) (r .few) (rw e small) (rw e (scaled n (num x) (den x) q k 149 925 (p .cross)))
 
 -- ---- as an equation of whole numbers
-negative-times : (a c : ℕ) → negℤ (pos a) *ℤ pos c ≡ negℤ (pos (a * c))
-negative-times zero c = rw (zero-mul c)
-negative-times (suc a) c = refl
-
 equation : (y : Float) (z : ℤ) (x : Float) → HasValue y (negative z) (natAbs z * num x) (den x) → IsProduct y z x
 equation nan z x v = absurd v
 equation (inf s) z x v = absurd v
 equation (fin false m e) (pos n) x v = (tt, rw (v .1, mul-assoc))
 equation (fin false m e) (negsuc n) x v = absurd (true≢false (sym (v .0)))
 equation (fin true m e) (pos n) x v = absurd (true≢false (v .0))
-equation (fin true m e) (negsuc n) x v = (tt, rw (negative-times, v .1, mul-assoc))
+equation (fin true m e) (negsuc n) x v = (tt, rw (negated-times, v .1, mul-assoc))
 
 pub exact-where-held : (z : ℤ) (x : Float) (q k : ℕ) → Parts x q k → natAbs z * q < 2 ^ 57 → Held (natAbs z * q) → IsProduct (productOf z x) z x
 exact-where-held z x q k p h r = equation (productOf z x) z x (unrounded z x q k p h r)
 
 -- ---- and only if: the f64 has at most 53 digits itself
-negated-size : (a : ℕ) → natAbs (negℤ (pos a)) ≡ a
-negated-size zero = refl
-negated-size (suc a) = refl
-
 times-size : (z : ℤ) (c : ℕ) → natAbs (z *ℤ pos c) ≡ natAbs z * c
 times-size (pos n) c = refl
-times-size (negsuc n) c = negated-size (suc n * c)
+times-size (negsuc n) c = negated-size (pos (suc n * c))
 
 numerator-size : (s : Bool) (m : ℕ) (e : ℤ) → natAbs (numerator (fin s m e)) ≡ m * up e
 numerator-size false m e = refl
-numerator-size true m e = negated-size (m * up e)
+numerator-size true m e = negated-size (pos (m * up e))
 
 second : (a b c d : Bool) → T (a && b && c && d) → T b
 second true true c d t = tt

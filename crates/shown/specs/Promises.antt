@@ -19,7 +19,7 @@ pub record ShownValue : Type 0 where
       natAbs (pos value +ℤ offset) < 536_870_912 →
       IsProduct (shownAt value offset bits .value) (pos value +ℤ offset) (ofBits binary32 bits)
   pub says-exact : (value : ℕ) (offset : ℤ) (bits : ℕ) → 1 ≤ bits → bits ≤ 0x7F7F_FFFF → natAbs (pos value +ℤ offset) < 536_870_912 → shownAt value offset bits .exact ≡ 1
-  -- exact is 1 if and only if the f64 is the exact product, and else 0
+  -- of a scale finite and above zero, exact is 1 if and only if the f64 is the exact product; it is 0 or 1 always
   pub only : (value : ℕ) (offset : ℤ) (bits : ℕ) → shownAt value offset bits .exact ≡ 1 → IsProduct (shownAt value offset bits .value) (pos value +ℤ offset) (ofBits binary32 bits)
   pub every :
       (value : ℕ) (offset : ℤ) (bits : ℕ) →

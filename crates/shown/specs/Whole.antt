@@ -20,7 +20,8 @@ unfoldable pub fractionOf : ℕ → ℤ → ℕ → Fraction
 fractionOf value offset bits =
     record { below = negative (sumOf value offset); size = natAbs (sumOf value offset) * digitsOf bits; power = powerOf bits }
 
--- an f64 has 53 digits: of a size below 2 ^ 57, which has one digit to four more, these have to be zeros
+-- An f64 has 53 digits. A size below 2 ^ 57 has up to four more, and those have to be zeros. It is how the code tells that the f64 is exact; what is
+-- promised of it is `isProduct`.
 abbrev pub isHeld : ℕ → Bool
 isHeld size =
     ltb size 0x20_0000_0000_0000

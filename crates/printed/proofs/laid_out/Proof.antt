@@ -2,7 +2,7 @@
 use borrow.Author.Needs.{needs}
 use mathlib.Core.Path.{_≡_, ap, _∙_}
 use Prim.Native.Nat.{ℕ, _^_, _≤_, _<_}
-use native.Mathlib.Nat.{zero-lt-suc, one-le-pow, pow-le-pow-right}
+use native.Mathlib.Nat.{zero-lt-suc, pow-le-pow-right}
 use native.Mathlib.Omega.{arith}
 use lib.IntN.{ℤ, natAbs}
 use lib.Signed.{natAbs-le}
@@ -12,7 +12,8 @@ use mir.Facts.{toZ-ofZ}
 use Rattle.shown.specs.Value.{sumOf, negative}
 use Rattle.shown.specs.Whole.{fractionOf}
 use Rattle.shown.proofs.Bits.{parts, size-few}
-use Rattle.printed.specs.Steps.{valueOf, lowDigits, numberIn}
+use Rattle.printed.specs.Steps.{together, lowDigits, numberIn}
+use Rattle.printed.proofs.Decimal.{tens-pos}
 use Rattle.printed.proofs.Signs.{signed, size-signed}
 use Rattle.printed.proofs.Nearby.{nearestOf, is-nearest}
 use Rattle.printed.proofs.Sizes.{fits}
@@ -48,7 +49,7 @@ the-fraction : (c : tie.After-fraction-of) → let a = c .before .args in c .fra
 the-fraction c = rw (toZ-ofZ (c .before .fits .offset)) at (c .fraction-of .ensures)
 
 tens-few : (decimals tens : ℕ) → tens ≡ 10 ^ decimals → decimals ≤ 7 → (1 ≤ tens) × (tens ≤ 10 ^ 7)
-tens-few decimals tens e h = rw e (one-le-pow decimals 10 (zero-lt-suc 9), pow-le-pow-right (zero-lt-suc 9) h)
+tens-few decimals tens e h = rw e (tens-pos decimals, pow-le-pow-right (zero-lt-suc 9) h)
 
 number-of-requires : tie.Need-number-of-requires
 unfolding fractionOf
@@ -66,7 +67,7 @@ digits-of-requires c κs =
     (r .whole-below, r .power-below, omega (arith, r .part-below, t .1), t .1)
 
 -- the two parts of the number make the one that is printed, and the digits are its
-value-is : (c : tie.After-number-of) → valueOf (c .number-of .result) (c .before .ten-to .result) ≡ natAbs (n (c .before .before .before))
+value-is : (c : tie.After-number-of) → together (c .number-of .result) (c .before .ten-to .result) ≡ natAbs (n (c .before .before .before))
 unfolding fractionOf
 value-is c =
     let s = c .before .before .before in
@@ -97,7 +98,7 @@ returns c =
       below = rw (the-fraction (x .before .before)) (sign ∙ ap (λ (k : ℕ). negative (signed (negative (sum s)) k)) (value-is x ∙ size-signed (negative (sum s)) _));
       digits = digits-are d;
       fits = n-fits s;
-      whole = c .places-of .ensures ∙ rw (its d .0);
+      before-point = c .places-of .ensures ∙ rw (its d .0);
     }
 
 pub laid-out-spec : {M : Type 1} → statement M

@@ -1,14 +1,9 @@
 -- `printed::promises` meets its contract: there is one nearest number, and its text tells it.
-use Prim.Native.Nat.{_/_, _^_}
-use native.Mathlib.Omega.{arith}
-use lib.IntN.{natAbs}
-use lib.Ieee.Bits.{is-true}
 use Rattle.printed.proofs.Nearby.{nearestOf, is-nearest, one}
 use Rattle.printed.proofs.Outcome.{settled}
-use Rattle.printed.proofs.Decimal.{places-pos}
-use Rattle.printed.proofs.Texts.{length-text}
-use Rattle.printed.proofs.Refusals.{four, room, written}
+use Rattle.printed.proofs.Refusals.{above-zero, four, room, written}
 use Rattle.printed.proofs.Reading.{reads, tells, minus-sign}
+use Rattle.printed.proofs.Shape.{shaped}
 use Rattle.printed.proofs.Sizes.{longest}
 use Rattle.printed.proofs.Within.{within-half}
 use Rattle.printed.proofs.promises.Statement.{statement}
@@ -27,8 +22,8 @@ returns c =
       minus-sign = minus-sign;
       reads = reads;
       tells = tells;
-      character = λ decimals n. omega (arith, length-text decimals n, places-pos (natAbs n / 10 ^ decimals));
-      longest = λ value offset bits decimals n v o p d h. longest value offset bits decimals n v o (is-true _ p) d h;
+      shaped = shaped;
+      longest = λ value offset bits decimals n v o l g d h. longest value offset bits decimals n v o (above-zero bits l g) d h;
     }
 
 pub promises-spec : {M : Type 1} → statement M

@@ -6,7 +6,7 @@ use native.Mathlib.Omega.{arith}
 use borrow.Author.Needs.{needs}
 use lib.Pow.{shl-lt, pow-mono}
 use lib.Ieee.Nearest.{closest}
-use Rattle.printed.specs.Steps.{valueOf}
+use Rattle.printed.specs.Steps.{together}
 use Rattle.printed.proofs.Rounding.{closest-none, closest-widened, closest-power}
 use Rattle.printed.proofs.number.number_of.Statement.{statement}
 use Rattle.printed.proofs.number.number_of.Tie as tie
@@ -39,7 +39,7 @@ returns-3 c =
     let x = c .split .ensures in
     let e : 149 ≡ 149 - a .power + a .power = omega arith in
     let w = ap (λ (n : ℕ). closest (a .size * 2 ^ a .power * a .tens) (2 ^ n)) e ∙ closest-widened (a .size) (a .tens) (149 - a .power) (a .power) in
-    let v : valueOf r (a .tens) ≡ r .whole * a .tens + r .part = rw (x .no-power) (omega arith) in
+    let v : together r (a .tens) ≡ r .whole * a .tens + r .part = rw (x .no-power) (omega arith) in
     record { is = v ∙ x .is ∙ sym w; part-below = x .part-below; whole-below = x .whole-below; power-below = rw (x .no-power) (omega arith) }
 
 pub number-of-spec : {M : Type 1} → statement M

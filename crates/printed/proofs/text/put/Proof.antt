@@ -36,7 +36,7 @@ returns c =
     let a = size .before .before .args in
     let n = numberIn (a .digits) in
     rw (part .put-part .ensures, whole .put-digits .ensures, sign .put-sign .ensures, size .sign-length .ensures)
-    (sym (sets-text (now (a .out)) (signBytes (a .below)) (partOf (a .decimals) n) (a .whole) (n / 10 ^ a .decimals)))
+    (sym (sets-text (now (a .out)) (signBytes (a .below)) (partOf (a .decimals) n) (a .places) (n / 10 ^ a .decimals)))
 
 pub put-spec : {M : Type 1} → statement M
 put-spec =
