@@ -74,12 +74,14 @@ const ATTACH_STACK: usize = 135_168;
 /// Of a verification, which is handed a whole master and gives none back, the most of both.
 const VERIFY_COPIES: f64 = 2.0;
 const VERIFY_STACK: usize = 73_728;
-/// The readers that are handed the parts of a master that they read, and the most of both for them; so much stack for an object and for a text too.
+/// The readers that are handed the parts of a master that they read, and the most of both for them; so much stack for an object too.
 const READERS: [&str; 8] =
     ["scm_state", "scm_step_count", "scm_sequence_edition", "scm_step", "scm_client", "scm_progress", "scm_taken", "scm_sent"];
 const PART_COPIES: f64 = 0.2;
 const PART_STACK: usize = 5_120;
-const SHALLOW: [&str; 3] = ["scm_object_at", "scm_object_write", "scm_shown_text"];
+const OBJECTS: [&str; 2] = ["scm_object_at", "scm_object_write"];
+/// The most bytes of stack of a shown value as text, of which the longest has 57 characters.
+const TEXT_STACK: usize = 2_048;
 /// 100 ms, in nanoseconds.
 const TICK: f64 = 1e8;
 
@@ -156,7 +158,8 @@ fn deep_stacks(rows: &[Row], bytes: &[Bytes]) -> Vec<String> {
     let limit = |row: &Row| match row.call {
         "scm_attach" => ATTACH_STACK,
         "scm_verify" => VERIFY_STACK,
-        call if READERS.contains(&call) || SHALLOW.contains(&call) => PART_STACK,
+        "scm_shown_text" => TEXT_STACK,
+        call if READERS.contains(&call) || OBJECTS.contains(&call) => PART_STACK,
         _ => STACK,
     };
     let above = rows.iter().zip(bytes).filter(|(row, bytes)| bytes.stack > limit(row));

@@ -8,23 +8,24 @@ mod whole;
 use crate::pool::generate::Random;
 use hold::{Case, Sides};
 use model::{Exact, Left, DECIMALS, LONGEST};
+use std::ops::RangeInclusive;
 use std::os::raw::{c_char, c_int};
 
 /// Values by chance, each with every number of decimals.
 const COUNT: u64 = 40_000;
 const SEED: u64 = 13;
 
-/// COUNT values by chance, from SEED, after those at all edges.
+/// COUNT values by chance, from SEED, after those at all edges; and of what they gave one text of each length into every room.
 pub fn run(arguments: &[&str]) {
     let (count, seed) = crate::count_and_seed(arguments, COUNT, SEED);
-    let mut run = Run { random: Random::new(seed), texts: 0, calls: [0; 5], met: Met::NOTHING };
+    let mut run = Run { random: Random::new(seed), texts: 0, calls: [0; 5], last: [[None; LONGEST + 1]; DECIMALS.len()], met: Met::NOTHING };
     EXAMPLES.iter().for_each(|example| run.example(example));
     run.every_exponent();
     run.every_tie();
     run.every_near_tie();
     run.every_refusal();
-    run.every_length();
     run.by_chance(count);
+    run.every_length();
     run.report();
 }
 
@@ -58,7 +59,7 @@ const EXAMPLES: [Example; 14] = [
     (0, i32::MIN, f32::MAX, 7, "-730750775109308493221719093046191758561635205120.0000000"),
 ];
 
-/// Values and offsets with sums at both ends; with others, zero among them.
+/// Values and offsets at their ends, the least sum and the greatest among theirs; and others, with sums of zero and small ones.
 const ENDS: [(u32, i32); 4] = [(0, i32::MIN), (u32::MAX, i32::MAX), (0, i32::MAX), (u32::MAX, i32::MIN)];
 const OTHERS: [(u32, i32); 9] = [(0, 0), (1, -1), (0x8000_0000, i32::MIN), (240, -240), (1, 0), (0, -1), (240, -40), (9_999_999, 0), (0, -9_995)];
 
@@ -66,7 +67,8 @@ const OTHERS: [(u32, i32); 9] = [(0, 0), (1, -1), (0x8000_0000, i32::MIN), (240,
 const SUMS: [i64; 18] =
     [1, 2, 3, 5, 6, 7, 40, 99, 1_023, 4_095, 123_456_789, 0x1FFF_FFFF, 0x2000_0000, 0x2000_0001, 0x7FFF_FFFF, 0x8000_0000, 1 << 32, 6_442_450_941];
 
-/// Bits of fractions that are near a tie. With 29 and more, and many digits of the scale, a double does not hold them.
+/// Bits of fractions that are near a tie, and of the least sums that make them. A double holds every product of a sum with up to 29 bits; with 30 and
+/// more, and many digits of the scale, not all.
 const WIDTHS: [u32; 10] = [1, 2, 3, 8, 20, 28, 29, 30, 31, 32];
 
 /// Scales, the least and the greatest among them; and those for which every call gives 4: zeros, below zero, infinities and NaNs; the last is style
@@ -86,6 +88,8 @@ struct Run {
     texts: u64,
     /// By the number that a call gave.
     calls: [u64; 5],
+    /// The last case with a text of this length, by decimals.
+    last: [[Option<Case>; LONGEST + 1]; DECIMALS.len()],
     met: Met,
 }
 
@@ -159,18 +163,15 @@ impl Run {
         self.count(hold::as_string(case, None, lent));
     }
 
-    /// Texts of all lengths, each into every number of bytes from 0 to 60.
+    /// One text of each length with each number of decimals, into every number of bytes from 0 to 60, by value and by the wrapper.
     fn every_length(&mut self) {
-        for field in 1..255 {
-            for (value, offset) in [ENDS[field % 4], self.any_sum()] {
-                let bits = (field as u32) << 23 | self.random.number() as u32 & 0x7f_ffff;
-                let decimals = self.random.below(8) as u32;
-                let (case, text) = (Case { value, offset, bits, decimals }, Exact::of(value, offset, bits).printed(decimals).text);
-                for lent in 0..=60 {
-                    self.count(hold::by_value(&case, Some(&text), lent));
-                    self.count(hold::as_string(&case, Some(&text), lent));
-                }
+        for case in self.last.iter().flatten().flatten().copied().collect::<Vec<Case>>() {
+            let text = Exact::of(case.value, case.offset, case.bits).printed(case.decimals).text;
+            for lent in 0..=60 {
+                self.count(hold::by_value(&case, Some(&text), lent));
+                self.count(hold::as_string(&case, Some(&text), lent));
             }
+            self.met.at[case.decimals as usize].lengths[text.len()] += 1;
         }
     }
 
@@ -209,8 +210,8 @@ impl Run {
     /// One value with every number of decimals.
     fn value(&mut self, value: u32, offset: i32, bits: u32) {
         if !model::is_scale(bits) {
-            let decimals = self.random.below(10) as u32;
-            return self.refused(&Case { value, offset, bits, decimals }, decimals as usize * 7);
+            let (decimals, lent) = (self.random.below(10) as u32, self.random.below(61));
+            return self.refused(&Case { value, offset, bits, decimals }, lent);
         }
         let (exact, sides) = (Exact::of(value, offset, bits), check(Sides::of(value, offset, bits)));
         for decimals in DECIMALS {
@@ -220,14 +221,17 @@ impl Run {
             self.text(&case, &printed.text);
             check(sides.hold(&case, &printed.text));
             self.doubles(&case, &sides, &printed.text);
+            self.last[decimals as usize][printed.text.len()] = Some(case);
             self.met.count(exact.below, decimals, &printed.text, printed.left);
         }
     }
 
-    /// Into as many bytes as the text has, one less and one more; by the wrapper and by value in turn.
+    /// Into as many bytes as the text has, one less and one more: the wrapper or the call by value writes it, as chance has it, and the other has no
+    /// room.
     fn text(&mut self, case: &Case, text: &[u8]) {
-        let need = text.len();
-        if self.texts % 2 == 0 {
+        let (need, wrapped) = (text.len(), self.random.once_in(2));
+        self.met.at[case.decimals as usize].written[usize::from(wrapped)] += 1;
+        if wrapped {
             self.count(hold::as_string(case, Some(text), need + 1));
             self.count(hold::by_value(case, Some(text), need - 1));
             self.count(hold::as_string(case, Some(text), need + 2));
@@ -242,18 +246,17 @@ impl Run {
         self.calls[usize::from(check(held))] += 1;
     }
 
-    /// C prints a double that is exact to the same text; one in four is tried. Of one that is rounded it may be another.
+    /// C prints a double that is exact to the same text; one in four is tried, as chance has it. Of one that is rounded it may be another.
     fn doubles(&mut self, case: &Case, sides: &Sides, text: &[u8]) {
-        let met = &mut self.met;
         if sides.is_exact {
-            met.exact += 1;
+            self.met.exact += 1;
         } else {
-            met.rounded += 1;
+            self.met.rounded += 1;
         }
-        if sides.is_exact && self.texts % 4 != 0 {
+        if sides.is_exact && !self.random.once_in(4) {
             return;
         }
-        let c = printf(sides.double, case.decimals);
+        let (c, met) = (printf(sides.double, case.decimals), &mut self.met.at[case.decimals as usize]);
         match (sides.is_exact, c == text) {
             (true, true) => met.as_printf += 1,
             (true, false) => fail(&format!("C prints {}, the library and the model {}, of {case}", c.escape_ascii(), text.escape_ascii())),
@@ -264,11 +267,15 @@ impl Run {
     fn report(&self) {
         let [written, short, _, _, refused] = self.calls;
         let met = &self.met;
-        let of = |left: Left| met.left.iter().flatten().map(|counts| counts[left as usize]).sum::<u64>();
+        let sum = |count: &dyn Fn(&At) -> u64| met.at.iter().map(count).sum::<u64>();
+        let of = |left: Left| sum(&|at| at.left.iter().map(|counts| counts[left as usize]).sum());
+        let lengths = sum(&|at| at.lengths.iter().sum());
         println!("printed: {} texts, written by {written} calls; {short} calls have no room for one, {refused} are refused with 4", self.texts);
+        println!("printed: {lengths} texts, of each length with each number of decimals, into every number of bytes from 0 to 60");
         println!("printed: ties to the even digit, {} down and {} up; {} zeros from below zero", of(Left::TieDown), of(Left::TieUp), met.zeros);
-        println!("printed: {} within half a last digit of a double that is exact, {} of them tried as C prints it", met.exact, met.as_printf);
-        println!("printed: {} of a double that is rounded, {} of them not as C prints it", met.rounded, met.other_than_printf);
+        let (same, other) = (sum(&|at| at.as_printf), sum(&|at| at.other_than_printf));
+        println!("printed: {} within half a last digit of a double that is exact, {same} of them tried as C prints it", met.exact);
+        println!("printed: {} of a double that is rounded, {other} of them not as C prints it", met.rounded);
         let unmet = met.unmet();
         if !unmet.is_empty() {
             fail(&format!("never met: {}", unmet.join("; ")));
@@ -313,40 +320,72 @@ fn printf(double: f64, decimals: u32) -> Vec<u8> {
     out
 }
 
-/// What must be met: by decimals, by sign and by what was left out; texts by their length; zeros of values that are below zero; doubles that are exact
-/// and that are not, and what C prints of them.
+/// What must be met: all of `At`, with each number of decimals; zeros of values that are below zero; doubles that are exact and doubles that are not.
 struct Met {
-    left: [[[u64; 5]; 2]; DECIMALS.len()],
-    lengths: [u64; LONGEST + 1],
+    at: [At; DECIMALS.len()],
     zeros: u64,
     exact: u64,
-    as_printf: u64,
     rounded: u64,
+}
+
+/// Texts with one number of decimals.
+#[derive(Clone, Copy)]
+struct At {
+    /// By sign and by what was left out.
+    left: [[u64; 5]; 2],
+    /// Into just enough bytes, by value and by the wrapper.
+    written: [u64; 2],
+    /// Into every number of bytes, by length.
+    lengths: [u64; LONGEST + 1],
+    /// As C prints the double, which is exact; and not so, of one that is rounded.
+    as_printf: u64,
     other_than_printf: u64,
 }
 
 impl Met {
-    const NOTHING: Met =
-        Met { left: [[[0; 5]; 2]; DECIMALS.len()], lengths: [0; LONGEST + 1], zeros: 0, exact: 0, as_printf: 0, rounded: 0, other_than_printf: 0 };
+    const NOTHING: Met = Met {
+        at: [At { left: [[0; 5]; 2], written: [0; 2], lengths: [0; LONGEST + 1], as_printf: 0, other_than_printf: 0 }; DECIMALS.len()],
+        zeros: 0,
+        exact: 0,
+        rounded: 0,
+    };
 
     fn count(&mut self, below: bool, decimals: u32, text: &[u8], left: Left) {
-        self.left[decimals as usize][usize::from(below)][left as usize] += 1;
-        self.lengths[text.len()] += 1;
+        self.at[decimals as usize].left[usize::from(below)][left as usize] += 1;
         self.zeros += u64::from(below && text[0] != b'-');
     }
 
     fn unmet(&self) -> Vec<String> {
-        let mut unmet = Vec::new();
-        for ((decimals, signs), sign) in each(&DECIMALS.map(|decimals| (decimals, &self.left[decimals as usize])), &[0, 1]) {
-            let lefts = [Left::Nothing, Left::BelowHalf, Left::AboveHalf, Left::TieDown, Left::TieUp];
-            let never = lefts.into_iter().filter(|left| signs[sign][*left as usize] == 0);
-            unmet.extend(never.map(|left| format!("{left:?} with {decimals} decimals, {} zero", ["above", "below"][sign])));
-        }
-        let lengths = (1..=LONGEST).filter(|length| self.lengths[*length] == 0);
-        unmet.extend(lengths.map(|length| format!("a text of {length} characters")));
-        if [self.zeros, self.as_printf, self.other_than_printf].contains(&0) {
-            unmet.push("a zero from below zero, or a text that is as C prints the double, or one that is not".into());
+        let at = DECIMALS.into_iter().zip(&self.at).flat_map(|(decimals, at)| at.unmet(decimals));
+        let mut unmet: Vec<String> = at.collect();
+        if [self.zeros, self.exact, self.rounded].contains(&0) {
+            unmet.push("a zero from below zero, or a double that is exact, or one that is rounded".into());
         }
         unmet
     }
+}
+
+impl At {
+    fn unmet(&self, decimals: u32) -> Vec<String> {
+        let lefts = [Left::Nothing, Left::BelowHalf, Left::AboveHalf, Left::TieDown, Left::TieUp];
+        let never = each(&lefts, &[0, 1]).into_iter().filter(|(left, sign)| self.left[*sign][*left as usize] == 0);
+        let mut unmet: Vec<String> = never.map(|(left, sign)| format!("{left:?} {} zero", ["above", "below"][sign])).collect();
+        let lengths = lengths(decimals).filter(|length| self.lengths[*length] == 0);
+        unmet.extend(lengths.map(|length| format!("a text of {length} characters into every number of bytes")));
+        let [by_value, wrapped] = self.written;
+        let others = [
+            (by_value, "a text by value into just enough bytes"),
+            (wrapped, "a text by the wrapper into just enough bytes"),
+            (self.as_printf, "a text that is as C prints the double"),
+            (self.other_than_printf, "a text that is not as C prints the double"),
+        ];
+        unmet.extend(others.iter().filter(|(count, _)| *count == 0).map(|(_, what)| what.to_string()));
+        unmet.iter().map(|what| format!("{what}, with {decimals} decimals")).collect()
+    }
+}
+
+/// The lengths of all texts: before the point 1 to 49 characters, a minus sign among them; with decimals above 0 the point and these.
+fn lengths(decimals: u32) -> RangeInclusive<usize> {
+    let behind = if decimals == 0 { 0 } else { 1 + decimals as usize };
+    1 + behind..=LONGEST - 8 + behind
 }

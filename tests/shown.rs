@@ -5,7 +5,7 @@ use crate::library;
 
 const COUNT: u64 = 5_000_000;
 
-/// "(value + offset) · scale, the sum exact, the product in f64 rounded once. A scale not finite
+/// "(value + offset) · scale, the sum exact, the product in f64 rounded once." "A scale not finite
 /// and above zero, as style 00 has it, gives 4 and value 0."
 fn model(value: u32, offset: i32, scale: f32) -> (u8, f64) {
     if scale.is_finite() && scale > 0.0 {
@@ -107,8 +107,8 @@ impl Count {
     }
 }
 
-/// Both zeros, subnormals least and greatest, the least normal, 0.1, 0.5, 1.0, the greatest finite,
-/// infinities, NaNs quiet and signalling, each with both signs; the last is style 00's.
+/// Zero, subnormals least and greatest, the least normal, 0.1, 0.5, 1, 100, the greatest finite, infinity,
+/// NaNs signalling and quiet; and eight of them with a minus sign, of which the last is style 00's.
 const SCALES: [u32; 24] = [
     0x0000_0000, 0x0000_0001, 0x0000_0002, 0x007f_ffff, 0x0080_0000, 0x0080_0001, 0x3dcc_cccd, 0x3f00_0000,
     0x3f80_0000, 0x42c8_0000, 0x7f7f_fffe, 0x7f7f_ffff, 0x7f80_0000, 0x7f80_0001, 0x7fc0_0000, 0x7fff_ffff,
@@ -123,7 +123,7 @@ const OFFSETS: [i32; 14] = [
     0, 1, -1, -40, -220, -240, 0x1fff_ffff, -0x1fff_ffff, -0x2000_0000, -0x2000_0001, i32::MAX, i32::MAX - 1, i32::MIN, i32::MIN + 1,
 ];
 
-/// Each number with each other, then COUNT cases by chance.
+/// Each value with each offset and each scale, then COUNT cases by chance.
 pub fn run(arguments: &[&str]) {
     let (turns, seed) = crate::count_and_seed(arguments, COUNT, 0x9e37_79b9_7f4a_7c15);
     let mut count = Count::default();

@@ -222,7 +222,7 @@ fn shown() -> Vec<Vec<u8>> {
     seeds.push(vec![SHOWN, 3, 0xFF, 0xFF, 0xFF, 0xFF, 240, 8, 0, 0, 0, 0]);
     for (sum, lent) in [(most, 0), (least, 0), (most, 64), (least, 128), (most, 192)] {
         seeds.push([&[SHOWN, 15 + 128][..], &sum, &[7, lent]].concat());
-        seeds.push([&[SHOWN, 15 + 240][..], &sum, &[0xFF, 0xFF, 0x7F, 0x23, 7, lent]].concat());
+        seeds.push([&[SHOWN, 15 + 240][..], &sum, &[0xFF, 0xFF, 0xFF, 0x23, 7, lent]].concat());
         seeds.push([&[SHOWN, 15 + 240][..], &sum, &[0xCD, 0xCC, 0x4C, 0x5E, 7, lent]].concat());
     }
     seeds

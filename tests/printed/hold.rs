@@ -73,7 +73,7 @@ pub fn as_string(case: &Case, text: Option<&[u8]>, len: usize) -> Result<u8, Str
     lend(case, len, wanted, &[0], |out| library::shown_text(value, offset, f32::from_bits(bits), decimals, out))
 }
 
-/// What a text is held against: the exact value, and the double of the library where that is exact.
+/// What a text is held against: the exact value, and the double of the library, if that is exact.
 pub struct Sides {
     exact: Signed,
     pub double: f64,

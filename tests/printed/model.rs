@@ -94,7 +94,7 @@ fn times(cells: &mut Vec<u32>, factor: u32) {
     cells.extend(cells_of(carry));
 }
 
-/// Thirteen at a time: 5^13 is the greatest power that 32 bits hold.
+/// Thirteen at a time: 5^13 is the greatest power of 5 that 32 bits hold.
 fn times_power(cells: &mut Vec<u32>, base: u32, power: usize) {
     for _ in 0..power / 13 {
         times(cells, base.pow(13));
@@ -136,7 +136,7 @@ fn add_one(digits: &mut Vec<u8>) {
     }
 }
 
-/// No zero before others, and "a minus sign only where a digit is not zero".
+/// Before the point no zero in front of other digits, and "a minus sign only where a digit is not zero".
 fn text_of(below: bool, digits: &[u8], decimals: usize) -> Vec<u8> {
     let zeros = digits.iter().take_while(|&&digit| digit == 0).count();
     let first = zeros.min(digits.len() - decimals - 1);

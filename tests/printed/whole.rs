@@ -84,7 +84,7 @@ pub fn double(number: f64) -> Option<Signed> {
 }
 
 /// The number of last digits that a text stands for, if it is one: "A minus sign, at least one digit, and with decimals above 0 a point and exactly
-/// that many digits", "a minus sign only where a digit is not zero", no zero before others.
+/// that many digits", "a minus sign only where a digit is not zero", before the point no zero in front of other digits.
 pub fn read(text: &[u8], decimals: u32) -> Option<Signed> {
     let (below, unsigned) = match text {
         [b'-', rest @ ..] => (true, rest),
@@ -104,7 +104,7 @@ pub fn read(text: &[u8], decimals: u32) -> Option<Signed> {
     (!below || size != Whole::of(0)).then(|| Signed::of(below, size))
 }
 
-/// Twice the distance of a printed number from places, beside one last digit. Below zero and above it they are further apart than both sizes.
+/// Twice the distance of a printed number from places, beside one last digit. One below zero and the other above, they are further apart than that.
 fn twice_the_distance(printed: &Signed, places: &Signed, decimals: u32) -> Ordering {
     let (ours, theirs) = (printed.size.times_two_to(PLACES), places.size.times_plus(10u64.pow(decimals), 0));
     let other_side = printed.below != places.below && printed.size != Whole::of(0) && places.size != Whole::of(0);
