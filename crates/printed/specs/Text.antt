@@ -44,5 +44,6 @@ abbrev pub partOf : ℕ → ℕ → List ℕ
 partOf zero n = []
 partOf (suc decimals) n = point ∷ lastDigits (suc decimals) n
 
+-- "The plot sheet needs text. Write the shown value with the function's decimals": n last digits, of which so many stand behind the point
 unfoldable pub textOf : ℕ → ℤ → List ℕ
 textOf decimals n = signOf n ++ wholeOf decimals (natAbs n) ++ partOf decimals (natAbs n)
