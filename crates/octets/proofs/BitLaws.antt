@@ -1,6 +1,7 @@
 -- A number that was put into a set is in it, and no other went in or out.
 use mathlib.Core.Path.{_≡_, refl, sym, ap, _∙_}
 use mathlib.Core.Bool.{Bool, true, false, _||_}
+use mathlib.Core.List.{List, [], _∷_}
 use mathlib.Core.Logic.{⊎-elim}
 use Prim.Native.Nat.{ℕ, zero, suc, _+_, _-_, _*_, _/_, _%_, _^_, _<_, _≤_, max}
 use native.Mathlib.Omega.{arith}
@@ -9,7 +10,11 @@ use native.Mathlib.Nat.{zero-div, div-self, div-eq-of-lt, pow-suc}
 use lib.Pow.{pow-pos, pow-lt, pow-add, shl-shr}
 use lib.Dec.{eqb, ltb}
 use lib.Bits.{bitOr, or-shr, or-step}
-use Rattle.octets.specs.Bits.{hasBit, withBit}
+use lib.ListN.{length, getD, drop, drop-of-length-le}
+use lib.Seq.{drop-cons}
+use native.Mathlib.Numerals.{add-one}
+use Rattle.octets.specs.Pick.{pick}
+use Rattle.octets.specs.Bits.{hasBit, withBit, bitsOf}
 
 -- the last binary digit of a bitOr
 or-odd : (a b : ℕ) → bitOr a b % 2 ≡ max (a % 2) (b % 2)
@@ -56,3 +61,14 @@ has-with x s t = go (eqb s t) refl
 pub has-none : (t : ℕ) → hasBit 0 t ≡ false
 unfolding hasBit
 has-none t = rw (zero-div)
+
+-- ---- a set from a list, from its element k on
+
+module _ (l : List ℕ) (k : ℕ) where
+  pub bits-end : length l ≤ k → bitsOf (drop k l) ≡ 0
+  unfolding bitsOf
+  bits-end h = ap bitsOf (drop-of-length-le l h)
+
+  pub bits-next : k < length l → bitsOf (drop k l) ≡ pick (ltb (getD l k 0) 64) (withBit (bitsOf (drop (k + 1) l)) (getD l k 0)) (bitsOf (drop (k + 1) l))
+  unfolding bitsOf
+  bits-next h = rw (add-one, drop-cons l k 0)

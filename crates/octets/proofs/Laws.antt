@@ -6,8 +6,8 @@ use native.Mathlib.Numerals.{add-one}
 use native.Mathlib.Omega.{arith}
 use mathlib.Core.Path.{_≡_, refl, sym, ap, subst, _∙_}
 use mathlib.Core.List.{List, [], _∷_, _++_}
-use lib.ListN.{length, getD, take, drop, set}
-use lib.Seq.{sets, drop-cons, drop-drop, drop-at, getD-drop}
+use lib.ListN.{length, getD, take, drop, set, length-set, drop-of-length-le}
+use lib.Seq.{sets, set-out, drop-cons, drop-drop, drop-at, getD-drop}
 use Rattle.octets.specs.Octets.{numberAt, bytesOf}
 
 -- every element is a byte, as in a slice of bytes
@@ -88,6 +88,18 @@ sets-append l i (x ∷ xs) ys =
 pub then-sets : (l : List ℕ) (i n : ℕ) (xs ys : List ℕ) → length xs ≡ n → sets l i (xs ++ ys) ≡ sets (sets l i xs) (i + n) ys
 then-sets l i n xs ys e = sets-append l i xs ys ∙ ap (λ (m : ℕ). sets (sets l i xs) (i + m) ys) e
 
+-- past the end nothing is stored
+pub sets-past : (l : List ℕ) (i : ℕ) (xs : List ℕ) → length l ≤ i → sets l i xs ≡ l
+sets-past l i [] h = refl
+sets-past l i (x ∷ xs) h = ap (λ (m : List ℕ). sets m (suc i) xs) (set-out l i x h) ∙ sets-past l (suc i) xs (omega arith)
+
+-- so of a number's w bytes the n that reach the end are stored
+pub put-cut : (l : List ℕ) (i w n v : ℕ) → n ≤ w → length l ≤ i + n → sets l i (bytesOf n v) ≡ sets l i (bytesOf w v)
+unfolding bytesOf
+put-cut l i w zero v h e = sym (sets-past l i (bytesOf w v) (omega arith))
+put-cut l i zero (suc n) v h e = absurd (omega arith)
+put-cut l i (suc w) (suc n) v h e = put-cut (set l i (v % 256)) (suc i) w n (v / 256) (omega arith) (rw (length-set l i (v % 256)) (omega arith))
+
 -- byte after byte
 module _ (out : List ℕ) (i : ℕ) where
   pub put-start : (w v : ℕ) → sets out i (bytesOf w v) ≡ sets out (i + 0) (bytesOf (w - 0) v)
@@ -109,3 +121,18 @@ module _ (out : List ℕ) (i : ℕ) where
   put-end w k v h =
       let e : w - k ≡ 0 = omega arith in
       ap (λ (n : ℕ). sets out (i + k) (bytesOf n v)) e
+
+-- the bytes of a list, from its byte k on
+module _ (out : List ℕ) (i : ℕ) (bytes : List ℕ) where
+  pub stored-start : sets out i bytes ≡ sets out (i + 0) (drop 0 bytes)
+  stored-start = ap (λ (j : ℕ). sets out j bytes) (sym (add-zero i))
+
+  pub stored-step : (k : ℕ) → k < length bytes → sets out (i + k) (drop k bytes) ≡ sets (set out (i + k) (getD bytes k 0)) (i + (k + 1)) (drop (k + 1) bytes)
+  stored-step k h =
+      let e : suc (i + k) ≡ i + (k + 1) = omega arith in
+      ap (sets out (i + k)) (drop-cons bytes k 0 h)
+      ∙ ap (λ (j : ℕ). sets (set out (i + k) (getD bytes k 0)) j (drop (suc k) bytes)) e
+      ∙ ap (λ (n : ℕ). sets (set out (i + k) (getD bytes k 0)) (i + (k + 1)) (drop n bytes)) (sym (add-one k))
+
+  pub stored-end : (k : ℕ) → length bytes ≤ k → sets out (i + k) (drop k bytes) ≡ out
+  stored-end k h = ap (sets out (i + k)) (drop-of-length-le bytes h)

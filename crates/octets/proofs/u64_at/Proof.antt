@@ -6,10 +6,10 @@ use Rattle.octets.proofs.Laws.{number-split}
 use Rattle.octets.proofs.u64_at.Statement.{statement}
 use Rattle.octets.proofs.u64_at.Tie as tie
 
-returns : tie.Need-returns
-returns c =
-    let a = c .before .before .before .args in
+returns-2 : tie.Need-returns-2
+returns-2 c =
+    let a = c .before .before .before .before .args in
     omega (arith, number-split 4 4 (now (a .s)) (a .i))
 
 pub u64-at-spec : {M : Type 1} → statement M
-u64-at-spec = tie.close (tie.spec (λ c κs. search needs) (λ c. search needs) (λ c. search needs) (λ c κs. search needs) (λ c. search needs) (λ c. search needs) (λ c. search needs) returns)
+u64-at-spec = tie.close (tie.spec (λ c. search needs) (λ c κs. search needs) (λ c. search needs) (λ c κs. search needs) (λ c. search needs) (λ c. search needs) (λ c κs. search needs) (λ c. search needs) (λ c. search needs) (λ c. search needs) returns-2)
