@@ -1,11 +1,14 @@
 // What each message allows in its fields, how long it is, and its bytes.
 ghost use mathlib.Core.Path.{_≡_};
-ghost use mathlib.Core.List.{[], _∷_};
-ghost use Prim.Native.Nat.{max, min};
-ghost use lib.ListN.{length};
+ghost use mathlib.Core.List.{[], _∷_, _++_};
+ghost use Prim.Native.Nat.{_≤_, max, min};
+ghost use lib.Dec.{eqb};
+ghost use lib.ListN.{length, take, drop};
 ghost use Rattle.octets.specs.Octets as octets;
+ghost use Rattle.octets.specs.Pick.{pick};
+ghost use Rattle.octets.specs.Label.{rowOf};
 ghost use Rattle.message.specs.Layout.{sized, ofEight, reply, labelled, pooled, capability, failing, formOf};
-ghost use Rattle.message.specs.Messages.{octetOf, writtenAs, leftAs};
+ghost use Rattle.message.specs.Messages.{octetOf, laid, writtenAs, leftAs};
 use crate::Capability;
 use crate::Message;
 use crate::Reply;
@@ -17,6 +20,7 @@ use octets::label::Label;
 use octets::numbers::DONE;
 use octets::numbers::TOO_SHORT;
 use octets::numbers::WRONG_VALUE;
+use octets::put_bytes;
 
 // A reserved byte.
 const FF: u8 = 0xFF;
@@ -246,6 +250,61 @@ fn octet_of(form: Form, label: Label, pool: &[u8], i: usize) -> u8
     FF
 }
 
+// The first n bytes of a slice, or all where it has no more.
+fn first_of(bytes: &[u8], n: usize) -> &[u8]
+    ensures { λ r. ⌜ now r ≡ take n (now (bytes .entry)) ⌝ }
+{
+    if bytes.len() <= n {
+        return bytes;
+    }
+    &bytes[..n]
+}
+
+// The label of a message, or its pool where it has no label, if that starts at place i; else nothing.
+fn body_at<'a>(form: Form, i: usize, named: &'a [u8], pool: &'a [u8]) -> &'a [u8]
+    ensures { λ r. ⌜ now r ≡ pick (eqb i (form .first)) (pick (eqb (form .label) 0) (take (form .pool) (now (pool .entry))) (take (form .label) (now (named .entry)))) [] ⌝ }
+{
+    if i != form.first {
+        return first_of(pool, 0);
+    }
+    if form.label == 0 {
+        return first_of(pool, form.pool);
+    }
+    first_of(named, form.label as usize)
+}
+
+// Lays the bytes of a message from a place on, where those before it are laid: the body, which may be a whole pool, as a slice, the others one by one.
+fn lay_rest(form: Form, label: Label, pool: &[u8], from: usize, out: &mut [u8])
+    requires { ⌜ from ≤ form .length ⌝ }
+    requires { ⌜ form .length ≤ length (now out) ⌝ }
+    requires { ⌜ take from (now out) ≡ rowOf from (octetOf form label (now pool)) ⌝ }
+    ensures { λ _. ⌜ now (out .exit) ≡ laid form label (now (pool .entry)) ++ drop (form .length) (now (out .entry)) ⌝ }
+{
+    let end = form.length;
+    let named = label.bytes;
+    let body = first_of(body_at(form, from, &named, pool), end - from);
+    put_bytes(out, from, body);
+    let mut i = from + body.len();
+    while i < end {
+        out[i] = octet_of(form, label, pool, i);
+        i += 1;
+    }
+}
+
+// Lays the bytes of a message in a slice that has room for them. Most messages have only first bytes.
+fn lay_bytes(form: Form, label: Label, pool: &[u8], out: &mut [u8])
+    requires { ⌜ form .length ≤ length (now out) ⌝ }
+    ensures { λ _. ⌜ now (out .exit) ≡ laid form label (now (pool .entry)) ++ drop (form .length) (now (out .entry)) ⌝ }
+{
+    let end = form.length;
+    let bytes = form.bytes;
+    let first = first_of(first_of(&bytes, form.first), end);
+    put_bytes(out, 0, first);
+    if first.len() < end {
+        lay_rest(form, label, pool, first.len(), out);
+    }
+}
+
 // Lays a message in a slice.
 pub fn lay(form: Form, label: Label, pool: &[u8], out: &mut [u8]) -> Written
     ensures { λ r. ⌜ r ≡ writtenAs form (length (now (out .entry))) ⌝ }
@@ -264,11 +323,7 @@ pub fn lay(form: Form, label: Label, pool: &[u8], out: &mut [u8]) -> Written
             length: 0,
         };
     }
-    let mut i: usize = 0;
-    while i < end {
-        out[i] = octet_of(form, label, pool, i);
-        i += 1;
-    }
+    lay_bytes(form, label, pool, out);
     Written {
         number: DONE,
         length: end,
