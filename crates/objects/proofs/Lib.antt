@@ -5,3 +5,4 @@ pub mod Whole
 pub mod Passed
 pub mod Fields
 pub mod Trips
+pub mod Again

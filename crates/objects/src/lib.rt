@@ -8,8 +8,11 @@ use octets::numbers::DONE;
 use octets::numbers::TOO_SHORT;
 use octets::numbers::WRONG_VALUE;
 use pool::Head;
+ghost use mathlib.Core.Bool.{true};
 ghost use mathlib.Core.Path.{_≡_};
-ghost use Rattle.objects.specs.Objects.{foundAt, writeAnswer, writeOut};
+ghost use Prim.Native.Nat.{_≤_};
+ghost use lib.ListN.{length};
+ghost use Rattle.objects.specs.Objects.{isAt, foundAt, writeAnswer, writeOut};
 ghost use Rattle.objects.specs.RoundTrip.{RoundTrip};
 ghost use Rattle.objects.specs.Tables.{Tables};
 
@@ -81,6 +84,22 @@ pub fn write_object(object: Object, out: &mut [u8], at: usize) -> Written
         number: DONE,
         next: at + parts::size_of(kind),
     }
+}
+
+// The object at a place where one can be read, written at the same place of out, which is as long as the pool at least: the fields of its fixed part
+// one by one, its labels and its list as they stand. It gives the place after the object.
+pub fn rewrite_object(pool: &[u8], at: usize, out: &mut [u8]) -> usize
+    requires { ⌜ (isAt (now pool) at ≡ true) × (length (now pool) ≤ length (now out)) ⌝ }
+    ensures { λ r. ⌜ r ≡ foundAt (now (pool .entry)) at .next ⌝ }
+    ensures { λ _. ⌜ now (out .exit) ≡ writeOut (foundAt (now (pool .entry)) at .object) (now (out .entry)) at ⌝ }
+{
+    let head = pool::fields::head_at(pool, at);
+    let parts = parts::head_parts(head);
+    let rest = at + parts.fixed as usize;
+    let next = at + parts::size_of(Kind::Of(head));
+    write::put_head(&mut out[at..], head);
+    octets::put_bytes(out, rest, &pool[rest..next]);
+    next
 }
 
 // A pool taken apart and written again is the same pool, and legal objects written and read again are the same objects: nothing is done, the

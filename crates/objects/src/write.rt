@@ -85,7 +85,7 @@ fn put_state(out: &mut [u8], h: StateHead)
     put_u16(out, 6, h.picture);
 }
 
-fn put_head(out: &mut [u8], head: Head)
+pub fn put_head(out: &mut [u8], head: Head)
     ensures { λ _. ⌜ now (out .exit) ≡ sets (now (out .entry)) 0 (bytesOfFields (headFields (Kind.Of head))) ⌝ }
 {
     match head {

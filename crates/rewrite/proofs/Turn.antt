@@ -4,16 +4,13 @@ use native.Mathlib.Nat.{zero-add}
 use native.Mathlib.Omega.{arith}
 use mathlib.Core.Path.{_≡_, refl, sym, ap, _∙_}
 use mathlib.Core.List.{List, _++_}
-use mathlib.Core.Bool.{false}
 use lib.ListN.{length, take, drop, length-drop, take-append-drop, drop-of-length-le}
 use lib.Seq.{sets, sets-eq, length-sets, drop-drop, length-take-le}
-use borrow.Author.Tests.{le-ltb}
-use Rattle.octets.specs.Pick.{pick}
 use Rattle.octets.proofs.Laws.{Bytes, sets-append}
 use Rattle.pool.specs.Fields.{sizeAt}
-use Rattle.objects.specs.Objects.{sizeOf, wholeAt, nextAt, foundAt, noRoom, writeOut}
-use Rattle.objects.proofs.Passed.{IsAt, Fine, at-is, passed, fine-here, fine-next}
-use Rattle.objects.proofs.Trips.{size-is, whole-written, whole-legal, decoded}
+use Rattle.objects.specs.Objects.{foundAt, writeOut}
+use Rattle.objects.proofs.Passed.{IsAt, Fine, passed, fine-here, fine-next}
+use Rattle.objects.proofs.Again.{next-is, out-is}
 
 -- up to a place out holds the pool's bytes, and no object from there on has a fault
 pub record Turn (s old out : List ℕ) (at : ℕ) : Type 0 where
@@ -25,29 +22,13 @@ module _ (s old out : List ℕ) (at : ℕ) (B : Bytes s) (room : length s ≤ le
   here : IsAt s at
   here = fine-here s at h (t .fine)
 
-  pub next-is : foundAt s at .next ≡ at + sizeAt s at
-  unfolding nextAt pick
-  next-is = rw (at-is s at here)
-
-  kept : noRoom (wholeAt s at) out at ≡ false
-  unfolding wholeAt
-  kept =
-      let p = passed s at (here .right) in
-      le-ltb (length out) (at + sizeOf (wholeAt s at .kind)) (omega (arith, size-is s at (p .kind), p .room, t .long))
-
-  out-is : writeOut (foundAt s at .object) out at ≡ sets out at (take (sizeAt s at) (drop at s))
-  unfolding writeOut pick
-  out-is =
-      let p = passed s at (here .right) in
-      rw (decoded s at here, kept, whole-legal s at B p .right) (ap (sets out at) (whole-written s at B p))
-
   pub turned : (last : List ℕ) → last ≡ writeOut (foundAt s at .object) out at → Turn s old last (foundAt s at .next)
   turned last e =
       let p = passed s at (here .right) in
       let z : ℕ = sizeAt s at in
       let long : length (take z (drop at s)) ≡ z = length-take-le z (drop at s) (omega (arith, length-drop at s, p .room)) in
-      let same : last ≡ sets out at (take z (drop at s)) = e ∙ out-is in
-      rw next-is (record {
+      let same : last ≡ sets out at (take z (drop at s)) = e ∙ out-is s at here B out (omega (arith, t .long)) in
+      rw (next-is s at here) (record {
         stored = t .stored ∙ ap (sets out at) (sym (take-append-drop z (drop at s))) ∙ sets-append out at (take z (drop at s)) (drop z (drop at s)) ∙ rw (long, drop-drop z at s, ← same);
         long = ap length same ∙ length-sets out at (take z (drop at s)) ∙ t .long;
         fine = fine-next s at h (t .fine);

@@ -23,10 +23,7 @@ fn rewrite_all(pool: &[u8], out: &mut [u8])
 {
     let mut at: usize = 0;
     while at < pool.len() {
-        let found = objects::object_at(pool, at);
-        let object = found.object;
-        objects::write_object(object, out, at);
-        at = found.next;
+        at = objects::rewrite_object(pool, at, out);
     }
 }
 

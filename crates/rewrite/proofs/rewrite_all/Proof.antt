@@ -1,16 +1,14 @@
 -- `rewrite::rewrite_all` meets its contract. The loop's invariant is Turn; the measure is what is left of the pool.
 use Prim.Native.Nat.{_-_}
-use mathlib.Core.Path.{ap, _∙_}
+use mathlib.Core.Path.{_∙_}
 use lib.ListN.{length}
 use denote.Ref.{now}
 use Rattle.octets.proofs.Laws.{Bytes}
 use Rattle.pool.proofs.Walk.{size-least}
-use Rattle.objects.specs.declared.Found.{Found}
-use Rattle.objects.specs.Objects.{writeOut}
-use Rattle.objects.proofs.Passed.{accepted}
+use Rattle.objects.proofs.Passed.{at-is, accepted, fine-here}
+use Rattle.objects.proofs.Again.{next-is}
 use Rattle.objects.proofs.Trips.{round-trip}
-use Rattle.rewrite.proofs.Turn.{Turn, start, next-is, turned, ended}
-use borrow.Author.Needs.{needs}
+use Rattle.rewrite.proofs.Turn.{Turn, start, turned, ended}
 use native.Mathlib.Omega.{arith}
 use Rattle.rewrite.proofs.rewrite_all.Statement.{statement}
 use Rattle.rewrite.proofs.rewrite_all.Tie as tie
@@ -26,26 +24,30 @@ loop-holds c =
     let s = c .before .before in
     start (now (s .args .pool)) (now (s .args .out)) (accepted (now (s .args .pool)) (s .pre .0))
 
-loop-less : tie.Need-loop-less Inv-loop μ-loop
-loop-less c =
-    let f = c .before .before .before .before .before in
-    let l = f .before .before in
+rewrite-object-requires : tie.Need-rewrite-object-requires Inv-loop μ-loop
+rewrite-object-requires c κs =
+    let l = c .before .before in
     let s = l .before .before .before in
     let pool = now (s .args .pool) in
-    let bytes : Bytes pool = λ k. l .before .before .shared-slice-known .given k .fits in
-    let next = ap (λ (x : Found). x .next) (f .object-at .ensures) ∙ next-is pool (now (s .args .out)) (l .loop .out) (l .loop .at) bytes (s .pre .1) (l .loop .inv) (f .before .loop-test .taken) in
+    (at-is pool (l .loop .at) (fine-here pool (l .loop .at) (c .before .loop-test .taken) (l .loop .inv .fine)), omega (arith, s .pre .1, l .loop .inv .long))
+
+loop-less : tie.Need-loop-less Inv-loop μ-loop
+loop-less c =
+    let w = c .before .before in
+    let l = w .before .before .before in
+    let pool = now (l .before .before .before .args .pool) in
+    let next = w .rewrite-object .ensures .0 ∙ next-is pool (l .loop .at) (fine-here pool (l .loop .at) (w .before .before .loop-test .taken) (l .loop .inv .fine)) in
     omega (arith, size-least pool (l .loop .at))
 
 loop-again : tie.Need-loop-again Inv-loop μ-loop
 loop-again c =
-    let f = c .before .before .before .before .before in
-    let l = f .before .before in
+    let w = c .before .before in
+    let l = w .before .before .before in
     let s = l .before .before .before in
     let pool = now (s .args .pool) in
     let bytes : Bytes pool = λ k. l .before .before .shared-slice-known .given k .fits in
-    rw (f .object-at .ensures)
-    (turned pool (now (s .args .out)) (l .loop .out) (l .loop .at) bytes (s .pre .1) (l .loop .inv) (f .before .loop-test .taken) _
-    (c .before .before .write-object .ensures .1 ∙ ap (λ (x : Found). writeOut (x .object) (l .loop .out) (l .loop .at)) (f .object-at .ensures)))
+    rw (w .rewrite-object .ensures .0)
+    (turned pool (now (s .args .out)) (l .loop .out) (l .loop .at) bytes (s .pre .1) (l .loop .inv) (w .before .before .loop-test .taken) _ (w .rewrite-object .ensures .1))
 
 returns : tie.Need-returns Inv-loop μ-loop
 returns c =
@@ -60,4 +62,4 @@ same-length : tie.Need-same-length Inv-loop μ-loop
 same-length c = c .before .loop .inv .long
 
 pub rewrite-all-spec : {M : Type 1} → statement M
-rewrite-all-spec = tie.close (tie.spec Inv-loop μ-loop loop-holds (λ c κs. search needs) (λ c κs. search needs) loop-less loop-again same-length returns)
+rewrite-all-spec = tie.close (tie.spec Inv-loop μ-loop loop-holds rewrite-object-requires loop-less loop-again same-length returns)
