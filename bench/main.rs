@@ -1,20 +1,26 @@
 //! The library beside the plain models of the tests, its texts beside C's printf, in one run: the time of every call and its
 //! ratio to the model's, the share of a tick, how the cost grows with objects and steps, and the bytes that every call
-//! moves, in copies of a master, and that it takes of the stack. Under an emulator only ratios and bytes mean something.
-//! With the argument `bytes` it counts these alone. Fails where library and model differ, where a limit below is missed, and
-//! where a cost is plainly quadratic.
+//! moves, in copies of a master, and that it takes of the stack; and what a start-up waits for, beside two plain programs
+//! (bench/start.rs). Under an emulator only ratios and bytes mean something. With the argument `bytes` it counts these alone,
+//! with `start` it measures a start-up alone. Fails where the library differs from model or program, where a limit below is
+//! missed, where a cost is plainly quadratic, and where the library is slower than a program that checks every pair.
 
 #![deny(warnings)]
 
+mod bitset;
 mod calls;
 mod growth;
 mod handed;
 mod master;
 mod moved;
+mod pairwise;
+mod plain;
 mod pool;
 mod pools;
 mod rows;
 mod stack;
+mod start;
+mod start_pools;
 mod states;
 mod times;
 
@@ -24,6 +30,9 @@ mod check;
 #[allow(dead_code)]
 #[path = "../tests/master/event.rs"]
 mod event;
+#[allow(dead_code)]
+#[path = "../tests/pool/faults.rs"]
+mod faults;
 #[allow(dead_code)]
 #[path = "../tests/pool/generate.rs"]
 mod generate;
@@ -68,9 +77,9 @@ const CHECK: f64 = 3.0;
 /// The most copies of a master that a tick may make, and any call on a master; of an attach, beyond what judging its pool moves.
 const TICK_COPIES: f64 = 2.2;
 const COPIES: f64 = 5.0;
-/// The most bytes of stack of a call with its structs; an attach judges its pool on it, which takes 32 KB by itself.
+/// The most bytes of stack of a call with its structs; an attach judges its pool on it, which takes 70 KB by itself.
 const STACK: usize = 131_072;
-const ATTACH_STACK: usize = 135_168;
+const ATTACH_STACK: usize = 172_032;
 /// Of a verification, which is handed a whole master and gives none back, the most of both.
 const VERIFY_COPIES: f64 = 2.0;
 const VERIFY_STACK: usize = 73_728;
@@ -91,15 +100,20 @@ pub fn fail(why: &str) -> ! {
 }
 
 fn main() {
+    let only = std::env::args().nth(1);
+    if only.as_deref() == Some("start") {
+        return end(start::report());
+    }
     let mut rows = pool::rows();
     rows.extend(master::rows());
     rows.iter_mut().for_each(rows::compare);
     let mut missed = Vec::new();
-    if std::env::args().nth(1).as_deref() != Some("bytes") {
+    if only.as_deref() != Some("bytes") {
         let times = rows::times(&mut rows);
         missed.extend(slow_checks(&rows, &times));
         share_of_tick(&rows, &times);
         missed.extend(growth::report().iter().map(|title| format!("{title}: plainly quadratic")));
+        missed.extend(start::report());
         println!("\nbytes of state: {} a master, {} what an event gives back\n", size_of::<Master>(), size_of::<Outcome>());
     }
     let bytes = rows::bytes(&mut rows);
@@ -108,6 +122,10 @@ fn main() {
     }
     missed.extend(many_copies(&rows, &bytes));
     missed.extend(deep_stacks(&rows, &bytes));
+    end(missed);
+}
+
+fn end(missed: Vec<String>) {
     if !missed.is_empty() {
         fail(&missed.join("\nbench: "));
     }

@@ -59,8 +59,8 @@ pub fn long_lists() -> Vec<u8> {
     full(shaped(98, 64, 64))
 }
 
-/// 99 such functions, 16,381 bytes, where the states' numbers agree in their ten lowest bits: the library has to look through
-/// those one after another.
+/// 99 such functions, 16,381 bytes, where the states' numbers agree in their ten lowest bits: of these four at a time are in one
+/// chain of the library's, which has to look through it.
 pub fn alike_numbers() -> Vec<u8> {
     let mut pool = shaped(99, 64, 64);
     let numbers: Vec<u16> = (0..64).map(|place| 1024 * place + 512).collect();
