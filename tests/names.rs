@@ -4,8 +4,8 @@
 use crate::library;
 use std::collections::BTreeMap;
 
-/// 2.1.0: a call has come since 2.0.0, and a field where a struct that crosses had room for it.
-const VERSION: u32 = 2_001_000;
+/// 2.1.1: a call has come since 2.0.0, and a field where a struct that crosses had room for it; since 2.1.0 nothing that a host sees but time and stack.
+const VERSION: u32 = 2_001_001;
 
 type Names = &'static [(&'static str, usize)];
 

@@ -5,7 +5,7 @@ use mathlib.Core.Bool.{true, false}
 use mathlib.Core.List.{List, [], map, flatMap}
 use lib.ListN.{replicate}
 use Rattle.octets.specs.Pick.{pick}
-use Rattle.octets.specs.Bits.{hasBit, withBit}
+use Rattle.octets.specs.Bits.{hasBit, withBit, bitsOf}
 use Rattle.octets.specs.Octets as octets
 use Rattle.octets.specs.Label.{labelAt}
 use Rattle.arrays.specs.Arrays.{more}
@@ -46,7 +46,7 @@ use Rattle.events.specs.Examples.{storedBlocks, numberAfter, examplesOf}
 
 -- the blocks of a sequence that was recorded, of zeros, and none
 judged : (isDamaged storedBlocks ≡ false) × (isFaulty storedBlocks ≡ false)
-unfolding flatMap pick hasBit withBit octets.numberAt octets.bytesOf labelAt more first firstOf headAt fixedOf restAt placesF placesFrom numbersAt codeOf faultsAt nameAt stageOne find isObject objectOf idOf isIn firstRepeat repeatFault absentFault idsFault statesAbsent statesAlike rulesOf stageTwo verdictOf profile.triggerIn profile.statesIn profile.bitsOf profile.tableOf profile.keptAt profile.keptOfPool profile.blankProfile statusFrom packed fromClient fromMaster layoutOf readOf readingOf blankSlot blankRecord recordOf blankSequence stepsOf blankRecording indication.countedRecording indication.hasOpen indication.placeOf indication.againError indication.stepAfter indication.heardAgain indication.errorBy indication.firstError indication.firstValue indication.newStep indication.recordsAfter indication.withNew indication.heardFirst indication.heardOf kept.recordKept kept.keptSequence blankPlayback tick.countedPlayback tick.someLate tick.doesStop tick.doesLeave tick.nextTan tick.afterLeaving tick.tickOf answer.findAnswered answer.answerFrom answer.withAnswer answer.someUndone answer.isAllDone answer.answeredOf verification.firstFailing verification.sameLabel verification.labelsAgree verification.isListed verification.isInPool verification.ofSequence verification.clientChecks verification.stepChecks verification.readyChecks verification.checksBy verification.ruleOf verification.verifyBy refusal outcomeOf newMaster ended settled endOf followed reportedSlot awake unfit onCall offCall attachCall wantCall reportFrom unexpected reported reportCall clients.lost lostCall recording.unready recording.recordCall recording.recordingEnded recording.stopped recording.stopCall recording.cancelCall recording.untimely recording.recorded recording.interrupted recording.heard recording.indicationCall playback.startCall playback.abortCall playback.unheeded playback.clientAbortCall playback.unmatched playback.replied playback.answerCall ticks.recordingTicked ticks.playbackTicked ticks.ticked ticks.tickCall sumAt checkAt isDamaged usedBytes clientBytes stepBytes slotsIn contentsOf sealed storedOf clientRight clientBlank stepAt isFaulty
+unfolding flatMap pick hasBit withBit octets.numberAt octets.bytesOf labelAt more first firstOf headAt fixedOf restAt placesF placesFrom numbersAt codeOf faultsAt nameAt stageOne find isObject objectOf idOf isIn firstRepeat repeatFault absentFault idsFault statesAbsent statesAlike rulesOf stageTwo verdictOf profile.triggerIn profile.statesIn bitsOf profile.tableOf profile.keptAt profile.keptOfPool profile.blankProfile statusFrom packed fromClient fromMaster layoutOf readOf readingOf blankSlot blankRecord recordOf blankSequence stepsOf blankRecording indication.countedRecording indication.hasOpen indication.placeOf indication.againError indication.stepAfter indication.heardAgain indication.errorBy indication.firstError indication.firstValue indication.newStep indication.recordsAfter indication.withNew indication.heardFirst indication.heardOf kept.recordKept kept.keptSequence blankPlayback tick.countedPlayback tick.someLate tick.doesStop tick.doesLeave tick.nextTan tick.afterLeaving tick.tickOf answer.findAnswered answer.answerFrom answer.withAnswer answer.someUndone answer.isAllDone answer.answeredOf verification.firstFailing verification.sameLabel verification.labelsAgree verification.isListed verification.isInPool verification.ofSequence verification.clientChecks verification.stepChecks verification.readyChecks verification.checksBy verification.ruleOf verification.verifyBy refusal outcomeOf newMaster ended settled endOf followed reportedSlot awake unfit onCall offCall attachCall wantCall reportFrom unexpected reported reportCall clients.lost lostCall recording.unready recording.recordCall recording.recordingEnded recording.stopped recording.stopCall recording.cancelCall recording.untimely recording.recorded recording.interrupted recording.heard recording.indicationCall playback.startCall playback.abortCall playback.unheeded playback.clientAbortCall playback.unmatched playback.replied playback.answerCall ticks.recordingTicked ticks.playbackTicked ticks.ticked ticks.tickCall sumAt checkAt isDamaged usedBytes clientBytes stepBytes slotsIn contentsOf sealed storedOf clientRight clientBlank stepAt isFaulty
 judged = (refl, refl)
 
 unwritten : (isDamaged (replicate 512 0) ≡ true) × (isDamaged [] ≡ false) × (isFaulty [] ≡ true)
@@ -58,7 +58,7 @@ unfolding pick refusal outcomeOf newMaster onCall loadNumber loadCall
 loads-reached m blocks = rw (judged .0, judged .1, unwritten .0, unwritten .1, unwritten .2)
 
 pub reached : (m : Master) (e : Event) → map numberAfter (examplesOf e) ≡ callOf m e .numbers
-unfolding flatMap pick hasBit withBit octets.numberAt labelAt more first firstOf headAt fixedOf restAt placesF placesFrom numbersAt codeOf faultsAt nameAt stageOne find isObject objectOf idOf isIn firstRepeat repeatFault absentFault idsFault statesAbsent statesAlike rulesOf stageTwo verdictOf profile.triggerIn profile.statesIn profile.bitsOf profile.tableOf profile.keptAt profile.keptOfPool profile.blankProfile statusFrom packed fromClient fromMaster layoutOf readOf readingOf blankSlot blankRecord recordOf blankSequence stepsOf blankRecording indication.countedRecording indication.hasOpen indication.placeOf indication.againError indication.stepAfter indication.heardAgain indication.errorBy indication.firstError indication.firstValue indication.newStep indication.recordsAfter indication.withNew indication.heardFirst indication.heardOf kept.recordKept kept.keptSequence blankPlayback tick.countedPlayback tick.someLate tick.doesStop tick.doesLeave tick.nextTan tick.afterLeaving tick.tickOf answer.findAnswered answer.answerFrom answer.withAnswer answer.someUndone answer.isAllDone answer.answeredOf verification.firstFailing verification.sameLabel verification.labelsAgree verification.isListed verification.isInPool verification.ofSequence verification.clientChecks verification.stepChecks verification.readyChecks verification.checksBy verification.ruleOf verification.verifyBy refusal outcomeOf newMaster ended settled endOf followed reportedSlot awake unfit onCall offCall attachCall wantCall reportFrom unexpected reported reportCall clients.lost lostCall recording.unready recording.recordCall recording.recordingEnded recording.stopped recording.stopCall recording.cancelCall recording.untimely recording.recorded recording.interrupted recording.heard recording.indicationCall playback.startCall playback.abortCall playback.unheeded playback.clientAbortCall playback.unmatched playback.replied playback.answerCall ticks.recordingTicked ticks.playbackTicked ticks.ticked ticks.tickCall storeBytes slotsIn unstored storeCall unset editionCall
+unfolding flatMap pick hasBit withBit octets.numberAt labelAt more first firstOf headAt fixedOf restAt placesF placesFrom numbersAt codeOf faultsAt nameAt stageOne find isObject objectOf idOf isIn firstRepeat repeatFault absentFault idsFault statesAbsent statesAlike rulesOf stageTwo verdictOf profile.triggerIn profile.statesIn bitsOf profile.tableOf profile.keptAt profile.keptOfPool profile.blankProfile statusFrom packed fromClient fromMaster layoutOf readOf readingOf blankSlot blankRecord recordOf blankSequence stepsOf blankRecording indication.countedRecording indication.hasOpen indication.placeOf indication.againError indication.stepAfter indication.heardAgain indication.errorBy indication.firstError indication.firstValue indication.newStep indication.recordsAfter indication.withNew indication.heardFirst indication.heardOf kept.recordKept kept.keptSequence blankPlayback tick.countedPlayback tick.someLate tick.doesStop tick.doesLeave tick.nextTan tick.afterLeaving tick.tickOf answer.findAnswered answer.answerFrom answer.withAnswer answer.someUndone answer.isAllDone answer.answeredOf verification.firstFailing verification.sameLabel verification.labelsAgree verification.isListed verification.isInPool verification.ofSequence verification.clientChecks verification.stepChecks verification.readyChecks verification.checksBy verification.ruleOf verification.verifyBy refusal outcomeOf newMaster ended settled endOf followed reportedSlot awake unfit onCall offCall attachCall wantCall reportFrom unexpected reported reportCall clients.lost lostCall recording.unready recording.recordCall recording.recordingEnded recording.stopped recording.stopCall recording.cancelCall recording.untimely recording.recorded recording.interrupted recording.heard recording.indicationCall playback.startCall playback.abortCall playback.unheeded playback.clientAbortCall playback.unmatched playback.replied playback.answerCall ticks.recordingTicked ticks.playbackTicked ticks.ticked ticks.tickCall storeBytes slotsIn unstored storeCall unset editionCall
 reached m on = refl
 reached m off = refl
 reached m «record» = refl

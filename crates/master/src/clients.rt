@@ -26,7 +26,7 @@ use octets::numbers::TOO_SHORT;
 use octets::numbers::WRONG_SLOT;
 use octets::numbers::WRONG_STATE;
 use octets::numbers::WRONG_VALUE;
-use profile::kept;
+use profile::judge;
 
 // The last slot. A slot above it is read as this one, and the call is refused before a rule asks for it.
 pub(crate) const LAST_SLOT: usize = 7;
@@ -68,7 +68,8 @@ impl Master {
         if why != DONE {
             return self.gives(why);
         }
-        let verdict = pool::check(pool);
+        let judged = judge(pool);
+        let verdict = judged.verdict;
         if verdict.code != 0 {
             return Outcome {
                 number: POOL_REFUSED,
@@ -78,7 +79,7 @@ impl Master {
                 master: self,
             };
         }
-        let kept = kept(pool);
+        let kept = judged.profile;
         self.slots[at] = attached(name, kept);
         self.gives(DONE)
     }

@@ -1,11 +1,11 @@
 -- How the first fault goes on: of two verdicts, along the pool's objects, and along a list from a place in it.
-use Prim.Native.Nat.{ℕ, _+_, _≤_, _<_}
+use Prim.Native.Nat.{ℕ, zero, suc, _+_, _≤_, _<_}
 use native.Mathlib.Numerals.{add-one}
-use mathlib.Core.Path.{_≡_, refl, ap, _∙_}
+use mathlib.Core.Path.{_≡_, refl, sym, ap, _∙_}
 use mathlib.Core.List.{List, [], _∷_}
 use mathlib.Core.Bool.{Bool, true, false}
 use lib.Dec.{eqb}
-use lib.ListN.{length, getD, drop, drop-of-length-le}
+use lib.ListN.{length, getD, take, drop, drop-of-length-le}
 use lib.Seq.{drop-cons}
 use borrow.Author.Tests.{eq-eqb, ne-eqb}
 use Rattle.octets.specs.Pick.{pick}
@@ -37,6 +37,13 @@ pub first-last : (vs : List Verdict) → first (firstOf vs) fine ≡ firstOf vs
 unfolding firstOf first pick
 first-last [] = refl
 first-last (v ∷ vs) = first-both v (firstOf vs) fine ∙ ap (first v) (first-last vs)
+
+-- the first k verdicts, and then the others
+pub first-split : (k : ℕ) (vs : List Verdict) → firstOf vs ≡ first (firstOf (take k vs)) (firstOf (drop k vs))
+unfolding firstOf first pick
+first-split zero vs = refl
+first-split (suc k) [] = refl
+first-split (suc k) (v ∷ vs) = ap (first v) (first-split k vs) ∙ sym (first-both v (firstOf (take k vs)) (firstOf (drop k vs)))
 
 -- along the objects from a place of the pool
 module _ (f : ℕ → Verdict) (s : List ℕ) (at : ℕ) where

@@ -18,10 +18,10 @@ use Rattle.pool.specs.Search.Index.{chainOf, inChain, seek, Heads, Links
 use Rattle.pool.proofs.Lists.{find-next}
 
 -- an object of this number is in the number's chain
-pub other-chain : (s : List ℕ) (kind n p : ℕ) → inChain s (n % 1024) p ≡ false → isObject s kind n p ≡ false
+pub other-chain : (s : List ℕ) (kind n p : ℕ) → inChain s (n % 16384) p ≡ false → isObject s kind n p ≡ false
 unfolding inChain isObject
 other-chain s kind n p e =
-    let d : eqb (objectNumber s p) n ≡ false = ne-eqb (objectNumber s p) n (λ m. eqb-false (chainOf s p) (n % 1024) e (ap (λ (x : ℕ). x % 1024) m)) in
+    let d : eqb (objectNumber s p) n ≡ false = ne-eqb (objectNumber s p) n (λ m. eqb-false (chainOf s p) (n % 16384) e (ap (λ (x : ℕ). x % 16384) m)) in
     rw d
 
 -- what is sought by a weaker test passes over nothing
@@ -34,9 +34,10 @@ module _ (f g : ℕ → Bool) (d : ℕ) (ps : List ℕ) (few : length ps ≤ 204
   pub sought : (xs : List ℕ) (k : ℕ) → k ≤ length ps → drop k ps ≡ xs → Sought k xs (seek g k xs)
   unfolding seek find pick
   sought [] k h e =
+      let past-all : length ps ≤ 65535 = omega arith in
       record {
         least = omega arith;
-        same = sym (ap (λ (l : List ℕ). find f l d) (drop-of-length-le ps few));
+        same = sym (ap (λ (l : List ℕ). find f l d) (drop-of-length-le ps past-all));
         holds = λ l. let z : ⊥ = omega arith in elim z [ ];
       }
   sought (x ∷ xs) k h e =
@@ -61,16 +62,16 @@ module _ (f g : ℕ → Bool) (d : ℕ) (ps : List ℕ) (few : length ps ≤ 204
 -- ---- a chain grows at its front: the object at place k goes before what its chain held
 
 abbrev pub grown : List ℕ → List ℕ → List ℕ → ℕ → List ℕ
-grown s ps chain k = set (set chain (1024 + k) (getD chain (chainOf s (getD ps k 0)) 0)) (chainOf s (getD ps k 0)) k
+grown s ps chain k = set (set chain (16384 + k) (getD chain (chainOf s (getD ps k 0)) 0)) (chainOf s (getD ps k 0)) k
 
-module _ (s ps chain : List ℕ) (k : ℕ) (long : length chain ≡ 3072) (few : length ps ≤ 2048) (h : k < length ps) (heads : Heads s ps chain (k + 1)) where
+module _ (s ps chain : List ℕ) (k : ℕ) (long : length chain ≡ 18432) (few : length ps ≤ 2048) (h : k < length ps) (heads : Heads s ps chain (k + 1)) where
   abbrev p : ℕ
   p = getD ps k 0
 
   abbrev linked : List ℕ
-  linked = set chain (1024 + k) (getD chain (chainOf s p) 0)
+  linked = set chain (16384 + k) (getD chain (chainOf s p) 0)
 
-  small : chainOf s p < 1024
+  small : chainOf s p < 16384
   small = mod-lt (objectNumber s p) (lit< tt)
 
   pub heads-grown : Heads s ps (grown s ps chain k) k
@@ -86,36 +87,36 @@ module _ (s ps chain : List ℕ) (k : ℕ) (long : length chain ≡ 3072) (few :
           let n : b ≡ chainOf s p → ⊥ = λ m. eqb-false (chainOf s p) b e (sym m) in
           rw (drop-cons ps k 0 h, e)
           (getD-set-other linked (chainOf s p) b k 0 n
-          ∙ getD-set-other chain (1024 + k) b (getD chain (chainOf s p) 0) 0 (λ m. omega arith)
+          ∙ getD-set-other chain (16384 + k) b (getD chain (chainOf s p) 0) 0 (λ m. omega arith)
           ∙ heads b hb
           ∙ rw (add-one k))
 
-  apart : (j : ℕ) → getD (grown s ps chain k) (1024 + j) 0 ≡ getD linked (1024 + j) 0
-  apart j = getD-set-other linked (chainOf s p) (1024 + j) k 0 (λ m. omega (arith, small))
+  apart : (j : ℕ) → getD (grown s ps chain k) (16384 + j) 0 ≡ getD linked (16384 + j) 0
+  apart j = getD-set-other linked (chainOf s p) (16384 + j) k 0 (λ m. omega (arith, small))
 
   pub unused-grown : Unused ps chain → Unused ps (grown s ps chain k)
   unused-grown unused j hj hl =
-      apart j ∙ getD-set-other chain (1024 + k) (1024 + j) (getD chain (chainOf s p) 0) 0 (λ m. omega arith) ∙ unused j hj hl
+      apart j ∙ getD-set-other chain (16384 + k) (16384 + j) (getD chain (chainOf s p) 0) 0 (λ m. omega arith) ∙ unused j hj hl
 
   pub links-grown : Links s ps chain (k + 1) → Links s ps (grown s ps chain k) k
   links-grown links j hj hl = go (eqb j k) refl
     where
-      go : (t : Bool) → eqb j k ≡ t → getD (grown s ps chain k) (1024 + j) 0 ≡ seek (inChain s (chainOf s (getD ps j 0))) (j + 1) (drop (j + 1) ps)
+      go : (t : Bool) → eqb j k ≡ t → getD (grown s ps chain k) (16384 + j) 0 ≡ seek (inChain s (chainOf s (getD ps j 0))) (j + 1) (drop (j + 1) ps)
       go true e =
           let m : j ≡ k = eqb-true j k e in
-          apart j ∙ rw m (getD-set-same chain (1024 + k) (getD chain (chainOf s p) 0) 0 (omega arith) ∙ heads (chainOf s p) small)
+          apart j ∙ rw m (getD-set-same chain (16384 + k) (getD chain (chainOf s p) 0) 0 (omega arith) ∙ heads (chainOf s p) small)
       go false e =
           let n : j ≡ k → ⊥ = eqb-false j k e in
-          apart j ∙ getD-set-other chain (1024 + k) (1024 + j) (getD chain (chainOf s p) 0) 0 (λ m. n (omega arith)) ∙ links j (omega (arith, n)) hl
+          apart j ∙ getD-set-other chain (16384 + k) (16384 + j) (getD chain (chainOf s p) 0) 0 (λ m. n (omega arith)) ∙ links j (omega (arith, n)) hl
 
 -- ---- at the start there are no chains
 
-pub heads-none : (s ps : List ℕ) → Heads s ps (replicate 3072 2048) (length ps)
+pub heads-none : (s ps : List ℕ) → Heads s ps (replicate 18432 65535) (length ps)
 unfolding seek
-heads-none s ps b hb = rw (drop-length ps) (getD-replicate {A = ℕ} 3072 b 2048 0 (omega arith))
+heads-none s ps b hb = rw (drop-length ps) (getD-replicate {A = ℕ} 18432 b 65535 0 (omega arith))
 
-pub unused-none : (ps : List ℕ) → Unused ps (replicate 3072 2048)
-unused-none ps j hj hl = getD-replicate {A = ℕ} 3072 (1024 + j) 2048 0 (omega arith)
+pub unused-none : (ps : List ℕ) → Unused ps (replicate 18432 65535)
+unused-none ps j hj hl = getD-replicate {A = ℕ} 18432 (16384 + j) 65535 0 (omega arith)
 
 -- ---- along the chain of a number
 
@@ -123,29 +124,29 @@ module _ (s ps chain : List ℕ) (x : Indexed s ps chain) (kind n : ℕ) where
   -- what is found along the places is found from place i on, and i is in the number's chain
   pub record On (i : ℕ) : Type 0 where
     pub same : find (isObject s kind n) ps (length s) ≡ find (isObject s kind n) (drop i ps) (length s)
-    pub holds : i < length ps → inChain s (n % 1024) (getD ps i 0) ≡ true
+    pub holds : i < length ps → inChain s (n % 16384) (getD ps i 0) ≡ true
 
-  chain-small : n % 1024 < 1024
+  chain-small : n % 16384 < 16384
   chain-small = mod-lt n (lit< tt)
 
-  from : (k : ℕ) → k ≤ length ps → Sought (isObject s kind n) (inChain s (n % 1024)) (length s) ps (x .few) (other-chain s kind n) k (drop k ps) (seek (inChain s (n % 1024)) k (drop k ps))
-  from k h = sought (isObject s kind n) (inChain s (n % 1024)) (length s) ps (x .few) (other-chain s kind n) (drop k ps) k h refl
+  from : (k : ℕ) → k ≤ length ps → Sought (isObject s kind n) (inChain s (n % 16384)) (length s) ps (x .few) (other-chain s kind n) k (drop k ps) (seek (inChain s (n % 16384)) k (drop k ps))
+  from k h = sought (isObject s kind n) (inChain s (n % 16384)) (length s) ps (x .few) (other-chain s kind n) (drop k ps) k h refl
 
-  pub chain-start : On (getD chain (n % 1024) 0)
-  chain-start = rw (x .heads (n % 1024) chain-small) (record { same = from 0 (omega arith) .same; holds = from 0 (omega arith) .holds })
+  pub chain-start : On (getD chain (n % 16384) 0)
+  chain-start = rw (x .heads (n % 16384) chain-small) (record { same = from 0 (omega arith) .same; holds = from 0 (omega arith) .holds })
 
   -- the next of the chain stands later
   module _ (i : ℕ) (h : i < length ps) (o : On i) where
-    next-is : getD chain (1024 + i) 0 ≡ seek (inChain s (n % 1024)) (i + 1) (drop (i + 1) ps)
+    next-is : getD chain (16384 + i) 0 ≡ seek (inChain s (n % 16384)) (i + 1) (drop (i + 1) ps)
     unfolding inChain
     next-is =
-        let b : chainOf s (getD ps i 0) ≡ n % 1024 = eqb-true (chainOf s (getD ps i 0)) (n % 1024) (o .holds h) in
+        let b : chainOf s (getD ps i 0) ≡ n % 16384 = eqb-true (chainOf s (getD ps i 0)) (n % 16384) (o .holds h) in
         x .links i (omega arith) h ∙ rw b
 
-    pub chain-later : i < getD chain (1024 + i) 0
+    pub chain-later : i < getD chain (16384 + i) 0
     chain-later = rw next-is (omega (arith, from (i + 1) (omega arith) .least))
 
-    pub chain-next : isObject s kind n (getD ps i 0) ≡ false → On (getD chain (1024 + i) 0)
+    pub chain-next : isObject s kind n (getD ps i 0) ≡ false → On (getD chain (16384 + i) 0)
     chain-next e =
         let later = from (i + 1) (omega arith) in
         rw next-is (record { same = o .same ∙ find-next (isObject s kind n) ps (length s) i h e ∙ later .same; holds = later .holds })

@@ -1,5 +1,5 @@
 -- What is known of the base of an accepted pool: its labels have 1 to 63 bytes, and the version label has no byte that it may not have.
-use Prim.Native.Nat.{ℕ, suc, _<_}
+use Prim.Native.Nat.{ℕ, suc, _≤_, _<_}
 use native.Mathlib.Omega.{arith}
 use mathlib.Core.Path.{_≡_, refl, sym, _∙_}
 use mathlib.Core.List.{List, [], _∷_}
@@ -7,15 +7,15 @@ use mathlib.Core.Logic.{_⊎_, inl, inr}
 use mathlib.Core.Bool.{Bool, true, false, not, _&&_, true≢false}
 use lib.ListN.{length}
 use lib.Dec.{eqb, ltb}
-use borrow.Author.Tests.{eqb-true, eq-eqb, leb-false, not-false}
+use borrow.Author.Tests.{eqb-true, eq-eqb, ltb-false, leb-false, not-false}
 use Rattle.octets.specs.Pick.{pick}
 use Rattle.octets.proofs.Tests.{both}
 use Rattle.octets.proofs.All.{All, none, _also_}
 use Rattle.pool.specs.declared.Verdict.{Verdict}
 use Rattle.pool.specs.Verdicts.{verdict, fault, first, firstOf, firstFault}
-use Rattle.pool.specs.Fields.{objectNumber, baseType, baseAt, versionLabel, placesFrom}
+use Rattle.pool.specs.Fields.{objectNumber, baseType, baseAt, sizeAt, versionLabel, placesFrom}
 use Rattle.pool.specs.Ranges.{labelRight}
-use Rattle.pool.specs.StageOne.{Fault, codeOf, isBase, faultsAt, codeAt, faultAt, stageOne}
+use Rattle.pool.specs.StageOne.{Fault, codeOf, bytesLeft, isBase, faultsAt, codeAt, faultAt, stageOne}
 use Rattle.pool.specs.StageTwo.{find, isObject, objectOf, labelBytes, characterRight, characterFault, rulesOf, stageTwo}
 use Rattle.pool.specs.Pool.{verdictOf}
 
@@ -52,6 +52,23 @@ right-where true false t e = sym e
 right-where false true t e = refl
 right-where false false t e = t
 
+-- an object without a fault: of a base both labels are right, and it is whole
+pub record Fine (s : List ℕ) (at : ℕ) : Type 0 where
+  pub version : (isBase s at && not (labelRight (baseAt s at .n))) ≡ false
+  pub configuration : (isBase s at && not (labelRight (baseAt s at .m))) ≡ false
+  pub whole : sizeAt s at ≤ bytesLeft s at
+
+pub code-fine : (s : List ℕ) (at : ℕ) → codeAt s at ≡ 0 → Fine s at
+unfolding faultsAt
+code-fine s at e =
+    let three = code-late _ 0xFE _ e in
+    let known = code-late _ 0x00 _ (three .1) in
+    let fixed = code-late _ 0xFE _ (known .1) in
+    let n = code-late _ 0x08 _ (fixed .1) in
+    let m = code-late _ 0x0A _ (n .1) in
+    let rest = code-late _ 0xFE _ (m .1) in
+    record { version = n .0; configuration = m .0; whole = ltb-false _ _ (rest .0) }
+
 -- ---- the place that is found
 
 -- what holds of every place holds of the one that is found, and it passes the test
@@ -78,14 +95,9 @@ module _ (s : List ℕ) where
 
   -- of an object without a fault that is a base
   lengths-right : (at : ℕ) → codeAt s at ≡ 0 → isBase s at ≡ true → (labelRight (baseAt s at .n) ≡ true) × (labelRight (baseAt s at .m) ≡ true)
-  unfolding faultsAt
   lengths-right at e b =
-      let three = code-late _ 0xFE _ e in
-      let known = code-late _ 0x00 _ (three .1) in
-      let fixed = code-late _ 0xFE _ (known .1) in
-      let n = code-late _ 0x08 _ (fixed .1) in
-      let m = code-late _ 0x0A _ (n .1) in
-      (right-where (isBase s at) (labelRight (baseAt s at .n)) b (n .0), right-where (isBase s at) (labelRight (baseAt s at .m)) b (m .0))
+      let f = code-fine s at e in
+      (right-where (isBase s at) (labelRight (baseAt s at .n)) b (f .version), right-where (isBase s at) (labelRight (baseAt s at .m)) b (f .configuration))
 
   letters : (l : List ℕ) → All (λ c. characterFault 0x0A c .code ≡ 0) l → All (λ c. characterRight c ≡ true) l
   letters [] none = none

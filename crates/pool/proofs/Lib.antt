@@ -4,3 +4,7 @@ pub mod Lists
 pub mod Repeats
 pub mod Index
 pub mod Labels
+pub mod Base
+pub mod Within
+pub mod Looks
+pub mod Stages

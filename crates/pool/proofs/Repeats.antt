@@ -4,13 +4,13 @@ use native.Mathlib.Numerals.{add-one}
 use native.Mathlib.Omega.{arith}
 use mathlib.Core.Path.{_≡_, refl, sym, ap, _∙_}
 use mathlib.Core.List.{List, [], _∷_, _++_}
-use mathlib.Core.Bool.{Bool, true, false, _||_}
-use lib.Dec.{eqb}
+use mathlib.Core.Bool.{Bool, true, false, _||_, true≢false}
+use lib.Dec.{eqb, ltb}
 use lib.ListN.{length, getD, take, drop, set, drop-of-length-le, getD-replicate, replicate}
 use lib.Seq.{drop-cons, take-suc, getD-set-same, getD-set-other}
-use borrow.Author.Tests.{eq-eqb, ne-eqb, le-ltb, lt-ltb, eqb-true, eqb-false}
+use borrow.Author.Tests.{eq-eqb, ne-eqb, le-ltb, lt-ltb, eqb-true, eqb-false, ltb-false}
 use Rattle.octets.specs.Pick.{pick}
-use Rattle.octets.specs.Bits.{hasBit, withBit}
+use Rattle.octets.specs.Bits.{hasBit, withBit, bitsOf}
 use Rattle.octets.proofs.BitLaws.{has-with, has-none}
 use Rattle.pool.specs.Verdicts.{verdict, fine}
 use Rattle.pool.specs.StageTwo.{isIn, firstRepeat, repeatFault}
@@ -99,3 +99,44 @@ module _ (bits l : List ℕ) (key : ℕ) (wide : length bits ≡ 1024) (small : 
       go : (b : Bool) → eqb (n / 64) (key / 64) ≡ b → hasBit (getD (marked bits key) (n / 64) 0) (n % 64) ≡ isIn n (l ++ key ∷ [])
       go true e = in-word n h (eqb-true (n / 64) (key / 64) e)
       go false e = in-other n h (eqb-false (n / 64) (key / 64) e)
+
+-- ---- the keys below 64, as a set
+
+-- it has such a key exactly where the list has it
+pub has-bits : (keys : List ℕ) (t : ℕ) → t < 64 → hasBit (bitsOf keys) t ≡ isIn t keys
+unfolding bitsOf isIn pick
+has-bits [] t h = has-none t
+has-bits (k ∷ keys) t h = go (ltb k 64) refl (has-bits keys t h)
+  where
+    go : (b : Bool) → ltb k 64 ≡ b → hasBit (bitsOf keys) t ≡ isIn t keys → hasBit (pick b (withBit (bitsOf keys) k) (bitsOf keys)) t ≡ (eqb k t || isIn t keys)
+    go true e later = has-with (bitsOf keys) k t ∙ rw later
+    go false e later =
+        let l : 64 ≤ k = ltb-false k 64 e in
+        let d : eqb k t ≡ false = ne-eqb k t (λ m. omega arith) in
+        rw d later
+
+-- ---- keys of which no two are alike: none stands among those after it
+
+abbrev pub Unlike : List ℕ → Type 0
+Unlike [] = Unit
+Unlike (k ∷ keys) = (isIn k keys ≡ false) × Unlike keys
+
+module _ (k : ℕ) (keys : List ℕ) (new : isIn k keys ≡ false) where
+  other-key : (x : ℕ) → isIn x keys ≡ true → eqb k x ≡ false
+  other-key x e = ne-eqb k x (λ m. true≢false (sym e ∙ ap (λ (y : ℕ). isIn y keys) (sym m) ∙ new))
+
+-- nor among those seen before
+never : (seen keys : List ℕ) → Unlike keys → ((x : ℕ) → isIn x keys ≡ true → isIn x seen ≡ false) → firstRepeat seen keys ≡ length keys
+unfolding firstRepeat isIn pick
+never seen [] u new = refl
+never seen (k ∷ keys) u new =
+    let here : isIn k seen ≡ false = new k (rw (eq-eqb k k refl)) in
+    let later : firstRepeat (seen ++ k ∷ []) keys ≡ length keys =
+    never (seen ++ k ∷ []) keys (u .1) (λ x e. in-snoc x k seen ∙ rw (new x (rw e (or-true (eqb k x))), other-key k keys (u .0) x e)) in
+    rw here (ap suc later)
+
+pub unlike-fine : (code : ℕ) (names keys : List ℕ) → Unlike keys → repeatFault code names keys ≡ fine
+unfolding isIn
+unlike-fine code names keys u =
+    let e : firstRepeat [] keys ≡ length keys = never [] keys u (λ x e. refl) in
+    repeat-fine code names keys (firstRepeat [] keys) refl (omega (arith, e))

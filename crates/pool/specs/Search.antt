@@ -1,2 +1,4 @@
--- What the code's search for an object needs, and no rule of 01.
+-- What the code's search for objects needs, and no rule of 01.
 pub mod Index
+pub mod Walk
+pub mod Look

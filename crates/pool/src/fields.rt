@@ -1,6 +1,7 @@
 // An object's length and the fields of its fixed part, by its place. Places are below 65,536.
 ghost use mathlib.Core.Path.{_≡_};
 ghost use Prim.Native.Nat.{_+_, _≤_, _<_};
+ghost use lib.ListN.{length};
 ghost use Rattle.pool.specs.Fields.{objectNumber, kindAt, idAt, baseAt, functionAt, stateAt, headAt, fixedOf, restAt, sizeAt, versionLabel, configurationLabel};
 use crate::BASE_FIXED;
 use crate::BASE_TYPE;
@@ -15,7 +16,9 @@ use octets::byte_at;
 use octets::label::Label;
 use octets::label::label_at;
 use octets::u16_at;
+use octets::u16_in;
 use octets::u32_at;
+use octets::u32_in;
 use octets::u64_at;
 
 pub fn object_number(s: &[u8], at: usize) -> u16
@@ -72,7 +75,7 @@ pub fn base_at(s: &[u8], at: usize) -> BaseHead
     }
 }
 
-fn function_at(s: &[u8], at: usize) -> FunctionHead
+pub fn function_at(s: &[u8], at: usize) -> FunctionHead
     requires { ⌜ at < 65536 ⌝ }
     ensures { λ r. ⌜ r ≡ functionAt (now (s .entry)) at ⌝ }
 {
@@ -93,7 +96,29 @@ fn function_at(s: &[u8], at: usize) -> FunctionHead
     }
 }
 
-fn state_at(s: &[u8], at: usize) -> StateHead
+// The same where its bytes are there: no test is made for them.
+pub fn function_in(s: &[u8], at: usize) -> FunctionHead
+    requires { ⌜ at + 30 ≤ length (now s) ⌝ }
+    ensures { λ r. ⌜ r ≡ functionAt (now (s .entry)) at ⌝ }
+{
+    FunctionHead {
+        number: u16_in(s, at),
+        function: s[at + 3],
+        trigger: s[at + 4],
+        attribute: s[at + 5],
+        minimum: u32_in(s, at + 6),
+        maximum: u32_in(s, at + 10),
+        offset: u32_in(s, at + 14),
+        scale: u32_in(s, at + 18),
+        decimals: s[at + 22],
+        unit: u16_in(s, at + 23),
+        name: u16_in(s, at + 25),
+        picture: u16_in(s, at + 27),
+        s: s[at + 29],
+    }
+}
+
+pub fn state_at(s: &[u8], at: usize) -> StateHead
     requires { ⌜ at < 65536 ⌝ }
     ensures { λ r. ⌜ r ≡ stateAt (now (s .entry)) at ⌝ }
 {

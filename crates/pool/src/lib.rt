@@ -5,10 +5,16 @@ pub mod stage_one;
 pub mod stage_two;
 
 ghost use mathlib.Core.Path.{_≡_};
+ghost use Prim.Native.Nat.{_≤_};
+ghost use lib.ListN.{length, take};
+ghost use Rattle.pool.specs.Verdicts.{first, firstOf};
+ghost use Rattle.pool.specs.StageOne.{stageOne};
+ghost use Rattle.pool.specs.Search.Walk.{Walks, rules};
 ghost use Rattle.pool.specs.Pool.{verdictOf};
 ghost use Rattle.pool.specs.Cases.{Cases};
 ghost use Rattle.pool.specs.Codes.{Codes};
 ghost use Rattle.pool.specs.Edges.{Edges};
+use crate::stage_one::Walked;
 
 // A code of D.9, 0 for success, and the number of the object it is about.
 #[repr(C)]
@@ -20,6 +26,12 @@ pub struct Verdict {
 // "Success is 00, object FFFF."
 pub const FINE: Verdict = Verdict {
     code: 0x00,
+    object: 0xFFFF,
+};
+
+// "At most 16,384 bytes; more gives FF, object FFFF."
+pub const TOO_LONG: Verdict = Verdict {
+    code: 0xFF,
     object: 0xFFFF,
 };
 
@@ -81,21 +93,43 @@ pub enum Head {
     State(StateHead),
 }
 
+// The walk of stage one, and then the rules that need no list: their verdict stands in place of stage one's.
+pub fn before_lists(pool: &[u8], places: &mut [u16]) -> Walked
+    requires { ⌜ (length (now pool) ≤ 16384) × (length (now places) ≡ 2048) ⌝ }
+    ensures { λ r. ⌜ r .verdict ≡ first (stageOne (now (pool .entry))) (firstOf (take 4 (rules (now (pool .entry))))) ⌝ }
+    ensures { λ r. ⌜ (r .verdict .code ≡ 0x00 → Walks (now (pool .entry)) (now (places .exit)) (r .count) (r .base)) ⌝ }
+{
+    let one = stage_one::stage_one(pool, places);
+    if one.verdict.code != 0x00 {
+        return one;
+    }
+    let count = one.count;
+    let verdict = stage_two::objects_fault(pool, &places[..count], one.base);
+    Walked {
+        verdict,
+        count,
+        base: one.base,
+    }
+}
+
 // The verdict on any bytes at all.
 pub fn check(pool: &[u8]) -> Verdict
     ensures { λ r. ⌜ r ≡ verdictOf (now (pool .entry)) ⌝ }
 {
     if 16384 < pool.len() {
-        return Verdict {
-            code: 0xFF,
-            object: 0xFFFF,
-        };
+        return TOO_LONG;
     }
-    let one = stage_one::stage_one(pool);
-    if one.code != 0x00 {
-        return one;
+    let mut places = [0u16; 2048];
+    let walked = before_lists(pool, &mut places);
+    if walked.verdict.code != 0x00 {
+        return walked.verdict;
     }
-    stage_two::stage_two(pool)
+    let count = walked.count;
+    let ps = &places[..count];
+    let mut chain = [0xFFFFu16; 18432];
+    stage_two::chain_of(pool, ps, &mut chain);
+    let lists = stage_two::lists_fault(pool, ps, &chain, walked.base);
+    lists.verdict
 }
 
 // The worked cases of document 01 that concern pools hold of the definition: nothing is done, the contract says so.

@@ -24,13 +24,13 @@ fn names_right(name: u16, picture: u16) -> bool
     (name != 0xFFFF) & (picture != 0xFFFF)
 }
 
-fn base_right(h: BaseHead) -> bool
+pub fn base_right(h: BaseHead) -> bool
     ensures { λ r. ⌜ r ≡ baseRight h ⌝ }
 {
     (h.number == 0) & (h.version <= 2) & (1 <= h.o) & names_right(h.name, h.picture)
 }
 
-fn state_right(h: StateHead) -> bool
+pub fn state_right(h: StateHead) -> bool
     ensures { λ r. ⌜ r ≡ stateRight h ⌝ }
 {
     number_right(h.number) & (h.state <= 63) & names_right(h.name, h.picture)
@@ -68,22 +68,26 @@ fn shown_right(h: FunctionHead) -> bool
 fn value_right(h: FunctionHead) -> bool
     ensures { λ r. ⌜ r ≡ valueRight h ⌝ }
 {
-    ((h.attribute == 0) & unshown_right(h))
-        | ((h.attribute == 1)
-            & (h.minimum == 0xFFFFFFFF)
-            & (h.maximum == 0xFFFFFFFF)
-            & shown_right(h))
-        | ((h.attribute == 2) & (h.minimum <= h.maximum) & shown_right(h))
+    if h.attribute == 0 {
+        return unshown_right(h);
+    }
+    if h.attribute == 1 {
+        return (h.minimum == 0xFFFFFFFF) & (h.maximum == 0xFFFFFFFF) & shown_right(h);
+    }
+    (h.attribute == 2) & (h.minimum <= h.maximum) & shown_right(h)
 }
 
-fn function_right(h: FunctionHead) -> bool
+pub fn function_right(h: FunctionHead) -> bool
     ensures { λ r. ⌜ r ≡ functionRight h ⌝ }
 {
-    number_right(h.number)
+    let others = number_right(h.number)
         & trigger_right(h.trigger)
         & (h.s <= 64)
-        & names_right(h.name, h.picture)
-        & value_right(h)
+        & names_right(h.name, h.picture);
+    if !others {
+        return false;
+    }
+    value_right(h)
 }
 
 // Every field is in its range.

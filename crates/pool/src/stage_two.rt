@@ -1,15 +1,17 @@
 // Stage two: the rules over the whole pool, in their order.
 ghost use mathlib.Core.Path.{_≡_};
+ghost use mathlib.Core.Bool.{true};
 ghost use mathlib.Core.List.{map, []};
-ghost use Prim.Native.Nat.{_-_, _≤_, _<_};
+ghost use Prim.Native.Nat.{_+_, _-_, _≤_, _<_};
 ghost use lib.ListN.{length, take, drop, replicate};
+ghost use Rattle.octets.specs.Bits.{bitsOf};
 ghost use Rattle.pool.specs.Verdicts.{firstOf, firstFault};
 ghost use Rattle.pool.specs.Verdicts as Verdicts;
-ghost use Rattle.pool.specs.Fields.{objectNumber, numbersAt, placesFrom, versionLabel};
-ghost use Rattle.pool.specs.Search.Index.{Indexed};
-ghost use Rattle.pool.specs.StageTwo.{objectOf, idOf, isIn, firstRepeat, labelBytes, isForbidden, characterRight, repeatFault, characterFault, absentFault, idsFault, statesAbsent, statesAlike, rulesOf, stageTwo};
+ghost use Rattle.pool.specs.Fields.{objectNumber, stateType, numbersAt, functionsOf, versionLabel};
+ghost use Rattle.pool.specs.Search.Index.{Within, Indexed};
+ghost use Rattle.pool.specs.Search.Look.{Right, setOf, Sets};
+ghost use Rattle.pool.specs.StageTwo.{objectOf, idOf, isIn, firstRepeat, labelBytes, isForbidden, characterRight, repeatFault, characterFault, absentFault, idsFault, statesAbsent, statesAlike, rulesOf};
 use crate::BASE_FIXED;
-use crate::BASE_TYPE;
 use crate::FINE;
 use crate::FUNCTION_FIXED;
 use crate::FUNCTION_TYPE;
@@ -17,87 +19,50 @@ use crate::STATE_TYPE;
 use crate::Verdict;
 use crate::fields::base_at;
 use crate::fields::id_at;
-use crate::fields::kind_at;
-use crate::fields::object_number;
-use crate::fields::size_at;
 use crate::fields::state_count;
 use crate::fields::version_label;
 use octets::has_bit;
 use octets::u16_at;
+use octets::u16_in;
 use octets::with_bit;
 
-// The places of a pool's objects, at the front: an object has 8 bytes at least, so a pool holds at most 2,048. The other cells are 0.
-pub struct Listed {
-    pub count: usize,
-    pub places: [u16; 2048],
-}
+// How many chains there are.
+const CHAINS: u16 = 16384;
 
-pub fn list_places(s: &[u8]) -> Listed
-    requires { ⌜ length (now s) ≤ 16384 ⌝ }
-    ensures { λ r. ⌜ (r .count ≤ 2048) × (length (r .places) ≡ 2048) × (take (r .count) (r .places) ≡ placesFrom (now (s .entry)) 0) × (drop (r .count) (r .places) ≡ replicate (2048 - r .count) 0) ⌝ }
+// The chains of the objects whose numbers agree modulo 16,384, built from the last object to the first: which object is the first of each
+// chain, and after 16,384 cells which is the next after each; 65,535 ends a chain.
+pub fn chain_of(s: &[u8], ps: &[u16], chain: &mut [u16])
+    requires { ⌜ (length (now s) ≤ 16384) × (length (now ps) ≤ 2048) × Within (now s) (now ps) × (now chain ≡ replicate 18432 65535) ⌝ }
+    ensures { λ _. ⌜ Indexed (now (s .entry)) (now (ps .entry)) (now (chain .exit)) ⌝ }
 {
-    let mut places = [0u16; 2048];
-    let mut count: usize = 0;
-    let mut at: usize = 0;
-    while at < s.len() {
-        places[count] = at as u16;
-        count += 1;
-        at += size_at(s, at);
-    }
-    Listed { count, places }
-}
-
-// The chains of the objects whose numbers agree modulo 1,024, built from the last object to the first: which object is the first of each
-// chain, and after 1,024 cells which is the next after each; 2,048 ends a chain.
-pub fn chain_of(s: &[u8], ps: &[u16]) -> [u16; 3072]
-    requires { ⌜ (length (now s) ≤ 16384) × (length (now ps) ≤ 2048) ⌝ }
-    ensures { λ r. ⌜ Indexed (now (s .entry)) (now (ps .entry)) r ⌝ }
-{
-    let mut chain = [2048u16; 3072];
     let mut k = ps.len();
     while 0 < k {
         k -= 1;
         let p = ps[k] as usize;
-        let b = (object_number(s, p) % 1024) as usize;
+        let b = (u16_in(s, p) % CHAINS) as usize;
         let next = chain[b];
-        chain[1024 + k] = next;
+        chain[16384 + k] = next;
         chain[b] = k as u16;
     }
-    chain
 }
 
 // The place of the object of this number and type, and the pool's length where there is none.
 pub fn find_object(s: &[u8], ps: &[u16], chain: &[u16], kind: u8, n: u16) -> usize
     requires { ⌜ Indexed (now s) (now ps) (now chain) ⌝ }
-    ensures { λ r. ⌜ (r ≡ objectOf (now (s .entry)) (now (ps .entry)) kind n) × (r < 65536) ⌝ }
+    ensures { λ r. ⌜ (r ≡ objectOf (now (s .entry)) (now (ps .entry)) kind n) × (r < 65536) × (r < length (now (s .entry)) → r + 8 ≤ length (now (s .entry))) ⌝ }
 {
-    let b = (n % 1024) as usize;
+    let b = (n % CHAINS) as usize;
     let mut i = chain[b] as usize;
     while i < ps.len() {
         let p = ps[i] as usize;
-        let number = object_number(s, p);
-        let found = kind_at(s, p);
+        let number = u16_in(s, p);
+        let found = s[p + 2];
         if (number == n) & (found == kind) {
             return p;
         }
-        i = chain[1024 + i] as usize;
+        i = chain[16384 + i] as usize;
     }
     s.len()
-}
-
-// The number of each object, at the front; the other cells are 0.
-fn numbers_of(s: &[u8], ps: &[u16]) -> [u16; 2048]
-    requires { ⌜ length (now ps) ≤ 2048 ⌝ }
-    ensures { λ r. ⌜ (take (length (now (ps .entry))) r ≡ map (objectNumber (now (s .entry))) (now (ps .entry))) × (drop (length (now (ps .entry))) r ≡ replicate (2048 - length (now (ps .entry))) 0) ⌝ }
-{
-    let mut numbers = [0u16; 2048];
-    let mut k: usize = 0;
-    while k < ps.len() {
-        let p = ps[k] as usize;
-        numbers[k] = object_number(s, p);
-        k += 1;
-    }
-    numbers
 }
 
 // The ID of each object of this type in the list of count numbers at a place, at the front; the other cells are 0.
@@ -139,17 +104,25 @@ fn first_repeat(keys: &[u16]) -> usize
 
 // "object number seen before, 05"
 fn numbers_fault(s: &[u8], ps: &[u16]) -> Verdict
-    requires { ⌜ length (now ps) ≤ 2048 ⌝ }
+    requires { ⌜ Within (now s) (now ps) ⌝ }
     ensures { λ r. ⌜ r ≡ repeatFault 0x05 (map (objectNumber (now (s .entry))) (now (ps .entry))) (map (objectNumber (now (s .entry))) (now (ps .entry))) ⌝ }
 {
-    let numbers = numbers_of(s, ps);
-    let n = ps.len();
-    let k = first_repeat(&numbers[..n]);
-    if k < n {
-        return Verdict {
-            code: 0x05,
-            object: numbers[k],
-        };
+    let mut seen = [0u64; 1024];
+    let mut k: usize = 0;
+    while k < ps.len() {
+        let p = ps[k] as usize;
+        let number = u16_in(s, p);
+        let word = (number / 64) as usize;
+        let bit = (number % 64) as u64;
+        let bits = seen[word];
+        if has_bit(bits, bit) {
+            return Verdict {
+                code: 0x05,
+                object: number,
+            };
+        }
+        seen[word] = with_bit(bits, bit);
+        k += 1;
     }
     FINE
 }
@@ -272,52 +245,159 @@ fn first(v: Verdict, later: Verdict) -> Verdict
     if v.code == 0x00 { later } else { v }
 }
 
+// A set of IDs: the first count of ids. One above 63 is no state's.
+fn bits_of(ids: [u16; 255], count: usize) -> u64
+    requires { ⌜ count ≤ 255 ⌝ }
+    ensures { λ r. ⌜ r ≡ bitsOf (take count ids) ⌝ }
+{
+    let mut bits: u64 = 0;
+    let mut k = count;
+    while 0 < k {
+        k -= 1;
+        let id = ids[k];
+        if id < 64 {
+            bits = with_bit(bits, id as u64);
+        }
+    }
+    bits
+}
+
+// The set of the IDs of a list of states.
+fn set_at(s: &[u8], ps: &[u16], chain: &[u16], at: usize, count: usize) -> u64
+    requires { ⌜ Indexed (now s) (now ps) (now chain) × (at < 131072) × (count ≤ 255) ⌝ }
+    ensures { λ r. ⌜ r ≡ setOf (now (s .entry)) (now (ps .entry)) (numbersAt 2 (now (s .entry)) at count) ⌝ }
+{
+    let ids = ids_of(s, ps, chain, STATE_TYPE, at, count);
+    bits_of(ids, count)
+}
+
+// What one look at a list of states tells: where it is right, no state is absent and no ID stands twice, and this is the set of the IDs.
+pub struct Looked {
+    pub right: bool,
+    pub ids: u64,
+}
+
+const NOT_RIGHT: Looked = Looked {
+    right: false,
+    ids: 0,
+};
+
+// Most lists are right, and one look is enough. The list is taken from the last to the first.
+fn look(s: &[u8], ps: &[u16], chain: &[u16], at: usize, count: usize) -> Looked
+    requires { ⌜ Indexed (now s) (now ps) (now chain) × (at < 131072) × (count ≤ 255) ⌝ }
+    ensures { λ r. ⌜ (r .right ≡ true → Right (now (s .entry)) (now (ps .entry)) (numbersAt 2 (now (s .entry)) at count) (r .ids)) ⌝ }
+{
+    let mut ids: u64 = 0;
+    let mut k = count;
+    while 0 < k {
+        k -= 1;
+        let n = u16_at(s, at + 2 * k);
+        let p = find_object(s, ps, chain, STATE_TYPE, n);
+        if s.len() <= p {
+            return NOT_RIGHT;
+        }
+        let id = s[p + 3];
+        if 63 < id {
+            return NOT_RIGHT;
+        }
+        if has_bit(ids, id as u64) {
+            return NOT_RIGHT;
+        }
+        ids = with_bit(ids, id as u64);
+    }
+    Looked { right: true, ids }
+}
+
+// What is found in the list of a function's states: the first that is absent, the first with the ID of one before it, and the set of the IDs.
+struct Found {
+    absent: Verdict,
+    alike: Verdict,
+    ids: u64,
+}
+
+fn list_at(s: &[u8], ps: &[u16], chain: &[u16], at: usize, count: usize) -> Found
+    requires { ⌜ Indexed (now s) (now ps) (now chain) × (at < 131072) × (count ≤ 255) ⌝ }
+    ensures { λ r. ⌜ r .absent ≡ firstFault (absentFault (now (s .entry)) (now (ps .entry)) 0x04 stateType) (numbersAt 2 (now (s .entry)) at count) ⌝ }
+    ensures { λ r. ⌜ r .alike ≡ idsFault (now (s .entry)) (now (ps .entry)) 0x07 stateType (numbersAt 2 (now (s .entry)) at count) ⌝ }
+    ensures { λ r. ⌜ r .ids ≡ setOf (now (s .entry)) (now (ps .entry)) (numbersAt 2 (now (s .entry)) at count) ⌝ }
+{
+    let seen = look(s, ps, chain, at, count);
+    if seen.right {
+        return Found {
+            absent: FINE,
+            alike: FINE,
+            ids: seen.ids,
+        };
+    }
+    let absent = absent_fault(s, ps, chain, 0x04, STATE_TYPE, at, count);
+    let alike = ids_fault(s, ps, chain, 0x07, STATE_TYPE, at, count);
+    let ids = set_at(s, ps, chain, at, count);
+    Found { absent, alike, ids }
+}
+
+// The verdict on what the base lists; where it finds no fault, the set of the states of each function listed.
+pub struct Lists {
+    pub verdict: Verdict,
+    pub states: [u64; 255],
+}
+
 // "a listed state absent, 04, likewise; two states of one function with one state ID, 07": every 04 comes before any 07. The functions are taken
 // from the last to the first, so that the fault of the first stays.
-fn states_fault(s: &[u8], ps: &[u16], chain: &[u16], at: usize, count: usize) -> Verdict
+fn states_fault(s: &[u8], ps: &[u16], chain: &[u16], at: usize, count: usize) -> Lists
     requires { ⌜ Indexed (now s) (now ps) (now chain) × (at < 131072) × (count ≤ 255) ⌝ }
-    ensures { λ r. ⌜ r ≡ Verdicts.first (firstFault (statesAbsent (now (s .entry)) (now (ps .entry)) 0x04) (numbersAt 2 (now (s .entry)) at count)) (firstFault (statesAlike (now (s .entry)) (now (ps .entry)) 0x07) (numbersAt 2 (now (s .entry)) at count)) ⌝ }
+    ensures { λ r. ⌜ r .verdict ≡ Verdicts.first (firstFault (statesAbsent (now (s .entry)) (now (ps .entry)) 0x04) (numbersAt 2 (now (s .entry)) at count)) (firstFault (statesAlike (now (s .entry)) (now (ps .entry)) 0x07) (numbersAt 2 (now (s .entry)) at count)) ⌝ }
+    ensures { λ r. ⌜ Sets (now (s .entry)) (now (ps .entry)) (numbersAt 2 (now (s .entry)) at count) (r .states) 0 ⌝ }
 {
     let mut absent = FINE;
     let mut alike = FINE;
+    let mut sets = [0u64; 255];
     let mut k = count;
     while 0 < k {
         k -= 1;
         let n = u16_at(s, at + 2 * k);
         let p = find_object(s, ps, chain, FUNCTION_TYPE, n);
-        let list = p + FUNCTION_FIXED;
         let states = state_count(s, p) as usize;
-        let four = absent_fault(s, ps, chain, 0x04, STATE_TYPE, list, states);
-        absent = first(four, absent);
-        let seven = ids_fault(s, ps, chain, 0x07, STATE_TYPE, list, states);
-        alike = first(seven, alike);
+        let found = list_at(s, ps, chain, p + FUNCTION_FIXED, states);
+        absent = first(found.absent, absent);
+        alike = first(found.alike, alike);
+        sets[k] = found.ids;
     }
-    first(absent, alike)
+    Lists {
+        verdict: first(absent, alike),
+        states: sets,
+    }
 }
 
 // "a listed function absent, 03, naming the listed number; two listed functions with one function ID, 06"; then 04 and 07.
-fn lists_fault(s: &[u8], ps: &[u16], chain: &[u16], b: usize) -> Verdict
+pub fn lists_fault(s: &[u8], ps: &[u16], chain: &[u16], b: usize) -> Lists
     requires { ⌜ Indexed (now s) (now ps) (now chain) × (b < 65536) ⌝ }
-    ensures { λ r. ⌜ r ≡ firstOf (drop 4 (rulesOf (now (s .entry)) (now (ps .entry)) b)) ⌝ }
+    ensures { λ r. ⌜ r .verdict ≡ firstOf (drop 4 (rulesOf (now (s .entry)) (now (ps .entry)) b)) ⌝ }
+    ensures { λ r. ⌜ (r .verdict .code ≡ 0x00 → Sets (now (s .entry)) (now (ps .entry)) (functionsOf (now (s .entry)) b) (r .states) 0) ⌝ }
 {
     let base = base_at(s, b);
     let at = b + BASE_FIXED + base.n as usize + base.m as usize;
     let count = base.o as usize;
     let absent = absent_fault(s, ps, chain, 0x03, FUNCTION_TYPE, at, count);
     if absent.code != 0x00 {
-        return absent;
+        return Lists {
+            verdict: absent,
+            states: [0u64; 255],
+        };
     }
     let alike = ids_fault(s, ps, chain, 0x06, FUNCTION_TYPE, at, count);
     if alike.code != 0x00 {
-        return alike;
+        return Lists {
+            verdict: alike,
+            states: [0u64; 255],
+        };
     }
     states_fault(s, ps, chain, at, count)
 }
 
-// The rules in their order: 02, 05, 0C, 0A, then those on lists.
-fn judge(s: &[u8], ps: &[u16], chain: &[u16], b: usize) -> Verdict
-    requires { ⌜ Indexed (now s) (now ps) (now chain) × (b < 65536) ⌝ }
-    ensures { λ r. ⌜ r ≡ firstOf (rulesOf (now (s .entry)) (now (ps .entry)) b) ⌝ }
+// The rules that need no list, in their order: 02, 05, 0C, 0A.
+pub fn objects_fault(s: &[u8], ps: &[u16], b: usize) -> Verdict
+    requires { ⌜ Within (now s) (now ps) × (b < 65536) ⌝ }
+    ensures { λ r. ⌜ r ≡ firstOf (take 4 (rulesOf (now (s .entry)) (now (ps .entry)) b)) ⌝ }
 {
     if s.len() <= b {
         return Verdict {
@@ -336,23 +416,5 @@ fn judge(s: &[u8], ps: &[u16], chain: &[u16], b: usize) -> Verdict
             object: 0x0000,
         };
     }
-    let label = label_fault(s, b);
-    if label.code != 0x00 {
-        return label;
-    }
-    lists_fault(s, ps, chain, b)
-}
-
-pub fn stage_two(s: &[u8]) -> Verdict
-    requires { ⌜ length (now s) ≤ 16384 ⌝ }
-    ensures { λ r. ⌜ r ≡ stageTwo (now (s .entry)) ⌝ }
-{
-    let listed = list_places(s);
-    let count = listed.count;
-    let places = listed.places;
-    let ps = &places[..count];
-    let index = chain_of(s, ps);
-    let chain = &index[..3072];
-    let b = find_object(s, ps, chain, BASE_TYPE, 0);
-    judge(s, ps, chain, b)
+    label_fault(s, b)
 }

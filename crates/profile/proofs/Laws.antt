@@ -1,47 +1,24 @@
--- The laws of the tables of a profile: a set of state IDs has those of the list, and a table that is filled from the last function of a list to
--- the first holds what the list says of each ID.
+-- The laws of the tables of a profile: a table that is filled from the last function of a list to the first holds what the list says of each ID.
 use Prim.Native.Nat.{ℕ, _+_, _<_, _≤_}
 use native.Mathlib.Numerals.{add-one}
 use native.Mathlib.Omega.{arith}
 use mathlib.Core.Path.{_≡_, refl, sym, ap, _∙_}
-use mathlib.Core.List.{List, [], _∷_, map}
-use mathlib.Core.Bool.{Bool, true, false, _||_}
-use lib.Dec.{eqb, ltb}
+use mathlib.Core.List.{List, map}
+use mathlib.Core.Bool.{Bool, true, false}
+use lib.Dec.{eqb}
 use lib.ListN.{length, getD, drop, set, replicate, getD-replicate, drop-of-length-le}
 use lib.Seq.{drop-cons, ext-getD, getD-set-same, getD-set-other}
-use borrow.Author.Tests.{ne-eqb, eqb-true, eqb-false, ltb-false}
+use borrow.Author.Tests.{eq-eqb, ne-eqb, eqb-true, eqb-false}
 use Rattle.octets.specs.Pick.{pick}
-use Rattle.octets.specs.Bits.{hasBit, withBit}
+use Rattle.octets.specs.Bits.{bitsOf}
 use Rattle.octets.specs.Label.{rowOf}
-use Rattle.octets.proofs.BitLaws.{has-with, has-none}
 use Rattle.octets.proofs.Cells.{length-cells, cell}
+use Rattle.pool.specs.declared.Verdict.{Verdict}
+use Rattle.pool.specs.Pool.{verdictOf}
 use Rattle.pool.specs.Fields.{baseType, functionType, stateType, functionAt, functionsOf, placesFrom}
-use Rattle.pool.specs.StageTwo.{objectOf, idOf, isIn, statesListed}
-use Rattle.profile.specs.Profile.{triggerIn, statesIn, bitsOf, tableOf, keptAt, keptOfPool, Says}
-
--- ---- a set of state IDs
-
-module _ (l : List ℕ) (k : ℕ) where
-  pub bits-end : length l ≤ k → bitsOf (drop k l) ≡ 0
-  unfolding bitsOf
-  bits-end h = ap bitsOf (drop-of-length-le l h)
-
-  pub bits-next : k < length l → bitsOf (drop k l) ≡ pick (ltb (getD l k 0) 64) (withBit (bitsOf (drop (k + 1) l)) (getD l k 0)) (bitsOf (drop (k + 1) l))
-  unfolding bitsOf
-  bits-next h = rw (add-one, drop-cons l k 0)
-
--- it has an ID below 64 exactly where the list has it
-pub has-bits : (ids : List ℕ) (t : ℕ) → t < 64 → hasBit (bitsOf ids) t ≡ isIn t ids
-unfolding bitsOf isIn pick
-has-bits [] t h = has-none t
-has-bits (k ∷ ids) t h = go (ltb k 64) refl (has-bits ids t h)
-  where
-    go : (b : Bool) → ltb k 64 ≡ b → hasBit (bitsOf ids) t ≡ isIn t ids → hasBit (pick b (withBit (bitsOf ids) k) (bitsOf ids)) t ≡ (eqb k t || isIn t ids)
-    go true e later = has-with (bitsOf ids) k t ∙ rw later
-    go false e later =
-        let l : 64 ≤ k = ltb-false k 64 e in
-        let d : eqb k t ≡ false = ne-eqb k t (λ m. omega arith) in
-        rw d later
+use Rattle.pool.specs.StageTwo.{objectOf, idOf, statesListed}
+use Rattle.pool.proofs.Repeats.{has-bits}
+use Rattle.profile.specs.Profile.{triggerIn, statesIn, tableOf, keptAt, keptOfPool, blankProfile, profileOf, Says}
 
 -- ---- a table of 256 cells
 
@@ -107,3 +84,14 @@ says s =
       triggers = table-says (triggerIn s ps l);
       states = λ id t h u. rw (table-says (λ (f : ℕ). bitsOf (statesIn s ps l f)) id h) (has-bits (statesIn s ps l id) t u);
     }
+
+-- ---- of a refused pool nothing is kept
+
+module _ (s : List ℕ) (v : Verdict) (e : v ≡ verdictOf s) where
+  pub refused-profile : (v .code ≡ 0 → ⊥) → blankProfile ≡ profileOf s
+  unfolding profileOf pick
+  refused-profile n = rw (← e, ne-eqb (v .code) 0 n)
+
+  pub kept-profile : v .code ≡ 0 → keptOfPool s ≡ profileOf s
+  unfolding profileOf pick
+  kept-profile z = rw (← e, eq-eqb (v .code) 0 z)

@@ -5,8 +5,8 @@ use mathlib.Core.Path.{_≡_}
 use mathlib.Core.List.{List, [], _∷_, map}
 use mathlib.Core.Bool.{Bool}
 use lib.ListN.{getD, replicate}
-use lib.Dec.{ltb, eqb}
-use Rattle.octets.specs.{Pick.pick, Bits.hasBit, Bits.withBit, Label.blank, Label.rowOf}
+use lib.Dec.{eqb}
+use Rattle.octets.specs.{Pick.pick, Bits.hasBit, Bits.bitsOf, Label.blank, Label.rowOf}
 use Rattle.pool.specs.Fields.{baseType, functionType, stateType, baseAt, functionAt, versionLabel, configurationLabel, functionsOf, placesFrom}
 use Rattle.pool.specs.StageTwo.{objectOf, idOf, isIn, statesListed}
 use Rattle.pool.specs.Pool.{verdictOf}
@@ -26,12 +26,7 @@ statesIn s ps (n ∷ ns) id =
     let later : List ℕ = statesIn s ps ns id in
     pick (eqb (idOf s ps functionType n) id) (map (idOf s ps stateType) (statesListed s ps n)) later
 
--- "state ID at most 63": a set of state IDs as 64 bits
-unfoldable pub bitsOf : List ℕ → ℕ
-bitsOf [] = 0
-bitsOf (k ∷ ks) = pick (ltb k 64) (withBit (bitsOf ks) k) (bitsOf ks)
-
--- a cell for each of the 256 function IDs
+-- a cell for each of the 256 function IDs; of a function's states the set, "state ID at most 63": 64 bits
 unfoldable pub tableOf : (ℕ → ℕ) → List ℕ
 tableOf f = rowOf 256 f
 

@@ -1,33 +1,30 @@
 // What the master keeps of an accepted pool: the bytes stay with the host.
 ghost use mathlib.Core.Path.{_≡_};
-ghost use mathlib.Core.List.{map};
-ghost use Prim.Native.Nat.{_+_, _≤_, _<_};
-ghost use lib.ListN.{length, take};
-ghost use Rattle.pool.specs.Fields.{stateType, numbersAt, statesOf};
-ghost use Rattle.pool.specs.StageTwo.{idOf};
+ghost use Prim.Native.Nat.{_≤_, _<_};
+ghost use Rattle.octets.specs.Bits.{bitsOf};
+ghost use Rattle.pool.specs.Fields.{numbersAt, functionsOf};
+ghost use Rattle.pool.specs.Pool.{verdictOf};
 ghost use Rattle.pool.specs.Search.Index.{Indexed};
-ghost use Rattle.profile.specs.Profile.{bitsOf, tableOf, triggerIn, statesIn, keptAt, keptOfPool, blankProfile, profileOf, trigger, hasState, Says};
+ghost use Rattle.pool.specs.Search.Look.{Sets};
+ghost use Rattle.profile.specs.Profile.{tableOf, triggerIn, statesIn, keptAt, blankProfile, profileOf, trigger, hasState};
 ghost use Rattle.profile.specs.Promises.{SaysOf, KeptOf};
 use octets::has_bit;
 use octets::label::Label;
 use octets::label::blank;
 use octets::u16_at;
-use octets::with_bit;
 use pool::BASE_FIXED;
-use pool::BASE_TYPE;
-use pool::FUNCTION_FIXED;
 use pool::FUNCTION_TYPE;
-use pool::STATE_TYPE;
+use pool::TOO_LONG;
+use pool::Verdict;
+use pool::before_lists;
 use pool::fields::base_at;
 use pool::fields::configuration_label;
 use pool::fields::id_at;
-use pool::fields::state_count;
 use pool::fields::trigger_at;
 use pool::fields::version_label;
 use pool::stage_two::chain_of;
 use pool::stage_two::find_object;
-use pool::stage_two::ids_of;
-use pool::stage_two::list_places;
+use pool::stage_two::lists_fault;
 
 // trigger[f] is the preferred trigger of function f, 0 where the pool lists none; bit s of states[f] says that f has state s.
 #[repr(C)]
@@ -59,41 +56,22 @@ impl Profile {
     }
 }
 
-// A set of state IDs: the first count of ids. An ID above 63 is no state's.
-fn bits_of(ids: [u16; 255], count: usize) -> u64
-    requires { ⌜ count ≤ 255 ⌝ }
-    ensures { λ r. ⌜ r ≡ bitsOf (take count ids) ⌝ }
-{
-    let mut bits: u64 = 0;
-    let mut k = count;
-    while 0 < k {
-        k -= 1;
-        let id = ids[k];
-        if id < 64 {
-            bits = with_bit(bits, id as u64);
-        }
-    }
-    bits
-}
-
-// The states of the function at a place.
-fn states_at(s: &[u8], ps: &[u16], chain: &[u16], p: usize) -> u64
-    requires { ⌜ Indexed (now s) (now ps) (now chain) × (p < 65536) ⌝ }
-    ensures { λ r. ⌜ r ≡ bitsOf (map (idOf (now (s .entry)) (now (ps .entry)) stateType) (statesOf (now (s .entry)) p)) ⌝ }
-{
-    let count = state_count(s, p) as usize;
-    let ids = ids_of(s, ps, chain, STATE_TYPE, p + FUNCTION_FIXED, count);
-    bits_of(ids, count)
-}
-
 struct Tables {
     trigger: [u8; 256],
     states: [u64; 256],
 }
 
-// The trigger and the states of each function ID, from a list of count functions; taken from the last to the first, so that the first of an ID stays.
-fn tables_of(s: &[u8], ps: &[u16], chain: &[u16], at: usize, count: usize) -> Tables
-    requires { ⌜ Indexed (now s) (now ps) (now chain) × (at < 131072) × (count ≤ 255) ⌝ }
+// The trigger and the states of each function ID, from a list of count functions and the set of the states of each; taken from the last to the first,
+// so that the first of an ID stays.
+fn tables_of(
+    s: &[u8],
+    ps: &[u16],
+    chain: &[u16],
+    at: usize,
+    count: usize,
+    sets: [u64; 255],
+) -> Tables
+    requires { ⌜ Indexed (now s) (now ps) (now chain) × (at < 131072) × (count ≤ 255) × Sets (now s) (now ps) (numbersAt 2 (now s) at count) sets 0 ⌝ }
     ensures { λ r. ⌜ r .trigger ≡ tableOf (triggerIn (now (s .entry)) (now (ps .entry)) (numbersAt 2 (now (s .entry)) at count)) ⌝ }
     ensures { λ r. ⌜ r .states ≡ tableOf (λ id. bitsOf (statesIn (now (s .entry)) (now (ps .entry)) (numbersAt 2 (now (s .entry)) at count) id)) ⌝ }
 {
@@ -106,19 +84,19 @@ fn tables_of(s: &[u8], ps: &[u16], chain: &[u16], at: usize, count: usize) -> Ta
         let p = find_object(s, ps, chain, FUNCTION_TYPE, n);
         let id = id_at(s, p) as usize;
         trigger[id] = trigger_at(s, p);
-        states[id] = states_at(s, ps, chain, p);
+        states[id] = sets[k];
     }
     Tables { trigger, states }
 }
 
-// What is kept of a pool of at most 16,384 bytes, with its base at b.
-fn kept_at(s: &[u8], ps: &[u16], chain: &[u16], b: usize) -> Profile
-    requires { ⌜ Indexed (now s) (now ps) (now chain) × (b < 65536) ⌝ }
+// What is kept of a pool of at most 16,384 bytes, with its base at b and the set of the states of each function that this lists.
+fn kept_at(s: &[u8], ps: &[u16], chain: &[u16], b: usize, sets: [u64; 255]) -> Profile
+    requires { ⌜ Indexed (now s) (now ps) (now chain) × (b < 65536) × Sets (now s) (now ps) (functionsOf (now s) b) sets 0 ⌝ }
     ensures { λ r. ⌜ r ≡ keptAt (now (s .entry)) (now (ps .entry)) b ⌝ }
 {
     let base = base_at(s, b);
     let at = b + BASE_FIXED + base.n as usize + base.m as usize;
-    let tables = tables_of(s, ps, chain, at, base.o as usize);
+    let tables = tables_of(s, ps, chain, at, base.o as usize, sets);
     let trigger = tables.trigger;
     let states = tables.states;
     let version = version_label(s, b);
@@ -131,22 +109,6 @@ fn kept_at(s: &[u8], ps: &[u16], chain: &[u16], b: usize) -> Profile
         trigger,
         states,
     }
-}
-
-// What is kept of a pool that the check has taken.
-pub fn kept(pool: &[u8]) -> Profile
-    requires { ⌜ length (now pool) ≤ 16384 ⌝ }
-    ensures { λ r. ⌜ r ≡ keptOfPool (now (pool .entry)) ⌝ }
-    ensures says { λ r. ⌜ Says (now (pool .entry)) r ⌝ }
-{
-    let listed = list_places(pool);
-    let count = listed.count;
-    let places = listed.places;
-    let ps = &places[..count];
-    let index = chain_of(pool, ps);
-    let chain = &index[..3072];
-    let b = find_object(pool, ps, chain, BASE_TYPE, 0);
-    kept_at(pool, ps, chain, b)
 }
 
 // What is kept where there is no pool.
@@ -165,18 +127,51 @@ pub fn blank_profile() -> Profile
     }
 }
 
-// What is kept of any bytes at all: of a pool that the check refuses, nothing.
+// The verdict on any bytes at all, and what is kept of them: of a pool that the check refuses, nothing.
+pub struct Judged {
+    pub verdict: Verdict,
+    pub profile: Profile,
+}
+
+fn refused(verdict: Verdict) -> Judged
+    ensures { λ r. ⌜ (r .verdict ≡ verdict) × (r .profile ≡ blankProfile) ⌝ }
+{
+    let profile = blank_profile();
+    Judged { verdict, profile }
+}
+
+// The check, and with the chains that it has built what is kept.
+pub fn judge(pool: &[u8]) -> Judged
+    ensures { λ r. ⌜ (r .verdict ≡ verdictOf (now (pool .entry))) × (r .profile ≡ profileOf (now (pool .entry))) ⌝ }
+{
+    if 16384 < pool.len() {
+        return refused(TOO_LONG);
+    }
+    let mut places = [0u16; 2048];
+    let walked = before_lists(pool, &mut places);
+    if walked.verdict.code != 0x00 {
+        return refused(walked.verdict);
+    }
+    let count = walked.count;
+    let ps = &places[..count];
+    let mut chain = [0xFFFFu16; 18432];
+    chain_of(pool, ps, &mut chain);
+    let lists = lists_fault(pool, ps, &chain, walked.base);
+    if lists.verdict.code != 0x00 {
+        return refused(lists.verdict);
+    }
+    let verdict = lists.verdict;
+    let sets = lists.states;
+    let profile = kept_at(pool, ps, &chain, walked.base, sets);
+    Judged { verdict, profile }
+}
+
+// What is kept of any bytes at all.
 pub fn profile_of(pool: &[u8]) -> Profile
     ensures { λ r. ⌜ r ≡ profileOf (now (pool .entry)) ⌝ }
 {
-    if 16384 < pool.len() {
-        return blank_profile();
-    }
-    let verdict = pool::check(pool);
-    if verdict.code != 0 {
-        return blank_profile();
-    }
-    kept(pool)
+    let judged = judge(pool);
+    judged.profile
 }
 
 // What is kept of every accepted pool says what its lists say, and what is kept of one: nothing is done, the contract says so.

@@ -3,7 +3,7 @@ use mathlib.Core.Path.{refl}
 use native.Mathlib.Omega.{arith}
 use mathlib.Core.List.{flatMap}
 use Rattle.octets.specs.Pick.{pick}
-use Rattle.octets.specs.Bits.{hasBit, withBit}
+use Rattle.octets.specs.Bits.{hasBit, withBit, bitsOf}
 use Rattle.octets.specs.Octets as octets
 use Rattle.octets.specs.Label.{labelAt}
 use Rattle.arrays.specs.Arrays.{more}
@@ -40,7 +40,7 @@ use Rattle.events.specs.Examples.{recordedRun}
 use Rattle.promises.specs.Sample.{Sample}
 
 pub sample : Sample
-unfolding flatMap pick hasBit withBit octets.numberAt octets.bytesOf labelAt more first firstOf headAt fixedOf restAt placesF placesFrom numbersAt codeOf faultsAt nameAt stageOne find isObject objectOf idOf isIn firstRepeat repeatFault absentFault idsFault statesAbsent statesAlike rulesOf stageTwo verdictOf profile.triggerIn profile.statesIn profile.bitsOf profile.tableOf profile.keptAt profile.keptOfPool profile.blankProfile statusFrom packed fromClient fromMaster layoutOf readOf octetOf messageBytes readingOf blankSlot blankRecord recordOf blankSequence stepsOf blankRecording indication.countedRecording indication.hasOpen indication.placeOf indication.againError indication.stepAfter indication.heardAgain indication.errorBy indication.firstError indication.firstValue indication.newStep indication.recordsAfter indication.withNew indication.heardFirst indication.heardOf kept.recordKept kept.keptSequence blankPlayback tick.countedPlayback tick.someLate tick.doesStop tick.doesLeave tick.nextTan tick.afterLeaving tick.tickOf frames.filledOf frames.frameCountOf frames.framesOf answer.findAnswered answer.answerFrom answer.withAnswer answer.someUndone answer.isAllDone answer.answeredOf verification.firstFailing verification.sameLabel verification.labelsAgree verification.isListed verification.isInPool verification.ofSequence verification.clientChecks verification.stepChecks verification.readyChecks verification.checksBy verification.ruleOf verification.verifyBy refusal outcomeOf leavesOf newMaster ended settled endOf followed reportedSlot onCall awake offCall unfit attachCall wantCall reportFrom unexpected reported reportCall lost lostCall recording.unready recording.recordCall recording.recordingEnded recording.stopped recording.stopCall recording.cancelCall recording.untimely recording.recorded recording.interrupted recording.heard recording.indicationCall playback.startCall playback.abortCall playback.unheeded playback.clientAbortCall playback.unmatched playback.replied playback.answerCall ticks.recordingTicked ticks.playbackTicked ticks.ticked ticks.noFrames ticks.framesIn ticks.countIn ticks.tickCall unset editionCall
+unfolding flatMap pick hasBit withBit octets.numberAt octets.bytesOf labelAt more first firstOf headAt fixedOf restAt placesF placesFrom numbersAt codeOf faultsAt nameAt stageOne find isObject objectOf idOf isIn firstRepeat repeatFault absentFault idsFault statesAbsent statesAlike rulesOf stageTwo verdictOf profile.triggerIn profile.statesIn bitsOf profile.tableOf profile.keptAt profile.keptOfPool profile.blankProfile statusFrom packed fromClient fromMaster layoutOf readOf octetOf messageBytes readingOf blankSlot blankRecord recordOf blankSequence stepsOf blankRecording indication.countedRecording indication.hasOpen indication.placeOf indication.againError indication.stepAfter indication.heardAgain indication.errorBy indication.firstError indication.firstValue indication.newStep indication.recordsAfter indication.withNew indication.heardFirst indication.heardOf kept.recordKept kept.keptSequence blankPlayback tick.countedPlayback tick.someLate tick.doesStop tick.doesLeave tick.nextTan tick.afterLeaving tick.tickOf frames.filledOf frames.frameCountOf frames.framesOf answer.findAnswered answer.answerFrom answer.withAnswer answer.someUndone answer.isAllDone answer.answeredOf verification.firstFailing verification.sameLabel verification.labelsAgree verification.isListed verification.isInPool verification.ofSequence verification.clientChecks verification.stepChecks verification.readyChecks verification.checksBy verification.ruleOf verification.verifyBy refusal outcomeOf leavesOf newMaster ended settled endOf followed reportedSlot onCall awake offCall unfit attachCall wantCall reportFrom unexpected reported reportCall lost lostCall recording.unready recording.recordCall recording.recordingEnded recording.stopped recording.stopCall recording.cancelCall recording.untimely recording.recorded recording.interrupted recording.heard recording.indicationCall playback.startCall playback.abortCall playback.unheeded playback.clientAbortCall playback.unmatched playback.replied playback.answerCall ticks.recordingTicked ticks.playbackTicked ticks.ticked ticks.noFrames ticks.framesIn ticks.countIn ticks.tickCall unset editionCall
 sample = record {
   value = refl;
   started = record { before = run recordedRun; given = (recordedRun, refl); accepted = refl; after = refl };

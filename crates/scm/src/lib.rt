@@ -48,8 +48,8 @@ use rewrite::Rewritten;
 use sequence::Sequence;
 use shown::Shown;
 
-// 2.1.0: major * 1,000,000 + minor * 1,000 + patch.
-const VERSION: u32 = 2001000;
+// 2.1.1: major * 1,000,000 + minor * 1,000 + patch.
+const VERSION: u32 = 2001001;
 
 #[no_mangle]
 pub extern "C" fn scm_version() -> u32

@@ -2,7 +2,7 @@
 use mathlib.Core.Path.{refl}
 use mathlib.Core.List.{flatMap}
 use Rattle.octets.specs.Pick.{pick}
-use Rattle.octets.specs.Bits.{hasBit, withBit}
+use Rattle.octets.specs.Bits.{hasBit, withBit, bitsOf}
 use Rattle.octets.specs.Octets as octets
 use Rattle.octets.specs.Label.{labelAt}
 use Rattle.arrays.specs.Arrays.{more}
@@ -39,5 +39,5 @@ use Rattle.master.specs.Messages.{receiptOut}
 use Rattle.seen.specs.Starred.{Starred}
 
 pub starred : Starred
-unfolding flatMap pick hasBit withBit octets.numberAt labelAt more first firstOf headAt fixedOf restAt placesF placesFrom numbersAt codeOf faultsAt nameAt stageOne find isObject objectOf idOf isIn firstRepeat repeatFault absentFault idsFault statesAbsent statesAlike rulesOf stageTwo verdictOf profile.triggerIn profile.statesIn profile.bitsOf profile.tableOf profile.keptAt profile.keptOfPool profile.blankProfile statusFrom packed fromClient fromMaster layoutOf readOf readingOf blankSlot blankRecord recordOf blankSequence stepsOf blankRecording indication.countedRecording indication.hasOpen indication.placeOf indication.againError indication.stepAfter indication.heardAgain indication.errorBy indication.firstError indication.firstValue indication.newStep indication.recordsAfter indication.withNew indication.heardFirst indication.heardOf kept.recordKept kept.keptSequence blankPlayback tick.countedPlayback tick.someLate tick.doesStop tick.doesLeave tick.nextTan tick.afterLeaving tick.tickOf answer.findAnswered answer.answerFrom answer.withAnswer answer.someUndone answer.isAllDone answer.answeredOf verification.firstFailing verification.sameLabel verification.labelsAgree verification.isListed verification.isInPool verification.ofSequence verification.clientChecks verification.stepChecks verification.readyChecks verification.checksBy verification.ruleOf verification.verifyBy refusal outcomeOf newMaster ended settled endOf followed reportedSlot awake unfit onCall offCall attachCall wantCall reportFrom unexpected reported reportCall clients.lost lostCall recording.unready recording.recordCall recording.recordingEnded recording.stopped recording.stopCall recording.cancelCall recording.untimely recording.recorded recording.interrupted recording.heard recording.indicationCall playback.startCall playback.abortCall playback.unheeded playback.clientAbortCall playback.unmatched playback.replied playback.answerCall ticks.recordingTicked ticks.playbackTicked ticks.ticked ticks.tickCall messages.octetOf messages.leftAs call.leavesOf receiptOut
+unfolding flatMap pick hasBit withBit octets.numberAt labelAt more first firstOf headAt fixedOf restAt placesF placesFrom numbersAt codeOf faultsAt nameAt stageOne find isObject objectOf idOf isIn firstRepeat repeatFault absentFault idsFault statesAbsent statesAlike rulesOf stageTwo verdictOf profile.triggerIn profile.statesIn bitsOf profile.tableOf profile.keptAt profile.keptOfPool profile.blankProfile statusFrom packed fromClient fromMaster layoutOf readOf readingOf blankSlot blankRecord recordOf blankSequence stepsOf blankRecording indication.countedRecording indication.hasOpen indication.placeOf indication.againError indication.stepAfter indication.heardAgain indication.errorBy indication.firstError indication.firstValue indication.newStep indication.recordsAfter indication.withNew indication.heardFirst indication.heardOf kept.recordKept kept.keptSequence blankPlayback tick.countedPlayback tick.someLate tick.doesStop tick.doesLeave tick.nextTan tick.afterLeaving tick.tickOf answer.findAnswered answer.answerFrom answer.withAnswer answer.someUndone answer.isAllDone answer.answeredOf verification.firstFailing verification.sameLabel verification.labelsAgree verification.isListed verification.isInPool verification.ofSequence verification.clientChecks verification.stepChecks verification.readyChecks verification.checksBy verification.ruleOf verification.verifyBy refusal outcomeOf newMaster ended settled endOf followed reportedSlot awake unfit onCall offCall attachCall wantCall reportFrom unexpected reported reportCall clients.lost lostCall recording.unready recording.recordCall recording.recordingEnded recording.stopped recording.stopCall recording.cancelCall recording.untimely recording.recorded recording.interrupted recording.heard recording.indicationCall playback.startCall playback.abortCall playback.unheeded playback.clientAbortCall playback.unmatched playback.replied playback.answerCall ticks.recordingTicked ticks.playbackTicked ticks.ticked ticks.tickCall messages.octetOf messages.leftAs call.leavesOf receiptOut
 starred = refl

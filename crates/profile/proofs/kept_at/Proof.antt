@@ -4,6 +4,11 @@ use Rattle.profile.specs.Profile.{keptAt}
 use Rattle.profile.proofs.kept_at.Statement.{statement}
 use Rattle.profile.proofs.kept_at.Tie as tie
 
+tables-of-requires : tie.Need-tables-of-requires
+tables-of-requires c κs =
+    let pre = c .before .before .before .before .before .before .before .pre in
+    (pre .0, search needs, search needs, rw (c .before .before .before .base-at .ensures) (pre .2))
+
 returns : tie.Need-returns
 unfolding keptAt
 returns c =
@@ -21,4 +26,4 @@ kept-at-spec =
     tie.close
     (tie.spec
     (λ c κs. search needs) (λ c. search needs) (λ c. search needs) (λ c. search needs) (λ c. search needs) (λ c. search needs)
-    (λ c. search needs) (λ c κs. search needs) (λ c κs. search needs) (λ c κs. search needs) returns)
+    (λ c. search needs) tables-of-requires (λ c κs. search needs) (λ c κs. search needs) returns)

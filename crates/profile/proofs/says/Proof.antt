@@ -1,16 +1,16 @@
--- `profile::says` meets its contract: what is kept of an accepted pool is what `kept` gives, and that says what the lists say; of the sample it is computed.
+-- `profile::says` meets its contract: what is kept of an accepted pool says what the lists say; of the sample it is computed.
 use mathlib.Core.Path.{_≡_, refl}
 use borrow.Author.Tests.{eq-eqb}
 use Rattle.octets.specs.Pick.{pick}
 use Rattle.octets.specs.Octets.{numberAt}
-use Rattle.octets.specs.Bits.{withBit}
+use Rattle.octets.specs.Bits.{withBit, bitsOf}
 use Rattle.octets.specs.Label.{labelAt}
 use Rattle.pool.specs.Verdicts.{first, firstOf}
 use Rattle.pool.specs.Fields.{headAt, fixedOf, restAt, placesF, placesFrom, numbersAt}
 use Rattle.pool.specs.StageOne.{codeOf, faultsAt, nameAt, stageOne}
 use Rattle.pool.specs.StageTwo.{find, isObject, objectOf, idOf, isIn, firstRepeat, repeatFault, absentFault, idsFault, statesAbsent, statesAlike, rulesOf, stageTwo}
 use Rattle.pool.specs.Pool.{verdictOf}
-use Rattle.profile.specs.Profile.{triggerIn, statesIn, bitsOf, tableOf, keptAt, keptOfPool, profileOf}
+use Rattle.profile.specs.Profile.{triggerIn, statesIn, tableOf, keptAt, keptOfPool, profileOf}
 use Rattle.profile.specs.Promises.{SaysOf, KeptOf}
 use Rattle.profile.proofs.Laws.{says}
 use Rattle.profile.proofs.says.Statement.{statement}

@@ -7,11 +7,12 @@ use Rattle.client.specs.Clients.{isTaken, isNamed}
 use Rattle.arrays.specs.Arrays.{some}
 use Rattle.pool.specs.declared.Verdict.{Verdict}
 use Rattle.pool.specs.Pool.{verdictOf}
+use Rattle.profile.proofs.Laws.{kept-profile}
 use Rattle.master.specs.Call.{Call, numberOf, refusal}
 use Rattle.master.specs.Clients.{attachCall}
 use Rattle.master.proofs.Calls.{refused-pool, refused-other, early, done, passed, below, before-own, own-last}
 use Rattle.master.proofs.Slots.{here, asked}
-use Rattle.master.proofs.Pools.{short, unfit-no, unfit-yes}
+use Rattle.master.proofs.Pools.{unfit-no, unfit-yes}
 use borrow.Author.Needs.{needs}
 use Rattle.master.proofs.Master.attach.Statement.{statement}
 use Rattle.master.proofs.Master.attach.Tie as tie
@@ -38,37 +39,35 @@ returns c =
     c .gives .ensures
     ∙ refused-other (call at-refusal) _ (first at-refusal ∙ before-own _ _ _ _ _ (λ z. h (first at-refusal ∙ z))) _ h (λ z. early _ _ _ _ (sym (first at-refusal) ∙ z))
 
-code-is : (c : tie.After-struct-known) → c .before .check .result .code ≡ verdictOf (c .before .before .before .before .before .before .before .before .args .pool .now) .code
-code-is c = ap (λ (v : Verdict). v .code) (c .before .check .ensures)
+-- the verdict is that on the pool
+judged : (c : tie.After-judge) → c .judge .result .verdict ≡ verdictOf (c .before .before .before .before .before .before .before .args .pool .now)
+judged c = c .judge .ensures .0
 
 returns-2 : tie.Need-returns-2
 unfolding attachCall
 returns-2 c =
-    let at-check = c .before .before in
-    let at-if1 = at-check .before in
+    let at-judge = c .before .before .before in
+    let at-if1 = at-judge .before in
     let at-refusal = at-if1 .before in
     let own = own-last _ _ _ _ _ (sym (first at-refusal) ∙ at-if1 .if1 .left) in
-    rw (at-check .check .ensures) (refused-pool (call at-refusal) 6 (sym (unfit-no _ (λ z. c .if2 .taken (code-is (c .before) ∙ z))) ∙ own) _ refl)
-
-kept-requires : tie.Need-kept-requires
-kept-requires c κs = short _ (sym (code-is (c .before)) ∙ c .if2 .left)
+    rw (judged at-judge) (refused-pool (call at-refusal) 6 (sym (unfit-no _ (λ z. c .if2 .taken (ap (λ (v : Verdict). v .code) (judged at-judge) ∙ z))) ∙ own) _ refl)
 
 at-most-seven : (c : tie.After-at-most) → c .at-most .result < 8
 at-most-seven c = omega (arith, c .at-most .ensures)
 
-mul-t13 : tie.Need-mul-t13
-mul-t13 c = let h = at-most-seven (c .before .before .before .before .before .before .before .before .before) in search (needs, h)
+mul-t14 : tie.Need-mul-t14
+mul-t14 c = let h = at-most-seven (c .before .before .before .before .before .before .before .before .before .before) in search (needs, h)
 
 element-set-from-self : tie.Need-element-set-from-self
-element-set-from-self c = let h = at-most-seven (c .before .before .before .before .before .before .before .before .before) in search (needs, h)
+element-set-from-self c = let h = at-most-seven (c .before .before .before .before .before .before .before .before .before .before) in search (needs, h)
 
 returns-3 : tie.Need-returns-3
 unfolding attachCall
 returns-3 c =
     let at-attached = c .before in
-    let at-kept = at-attached .before in
-    let at-if2 = at-kept .before in
-    let at-if1 = at-if2 .before .before .before in
+    let at-if2 = at-attached .before .before in
+    let at-judge = at-if2 .before .before .before in
+    let at-if1 = at-judge .before in
     let at-refusal = at-if1 .before in
     let at-at-most = at-refusal .before .before .before in
     let own = own-last _ _ _ _ _ (sym (first at-refusal) ∙ at-if1 .if1 .left) in
@@ -76,13 +75,13 @@ returns-3 c =
     rw (
       c .gives2 .ensures,
       at-attached .attached .ensures,
-      at-kept .kept .ensures .0,
+      at-judge .judge .ensures .1,
+      ← kept-profile _ _ (judged at-judge) (at-if2 .if2 .left),
       here _ _ (at-at-most .at-most .ensures) l,
-    ) (done (call at-refusal) 0 (sym (unfit-yes _ (sym (code-is (at-if2 .before)) ∙ at-if2 .if2 .left)) ∙ own) _ refl refl)
+    ) (done (call at-refusal) 0 (sym (unfit-yes _ (sym (ap (λ (v : Verdict). v .code) (judged at-judge)) ∙ at-if2 .if2 .left)) ∙ own) _ refl refl)
 
 pub attach-spec : {M : Type 1} → statement M
 attach-spec =
     tie.close
     (tie.spec (λ c κs. search needs) (λ c. search needs) (λ c. search needs) (λ c κs. search needs) (λ c κs. search needs) (λ c κs. search needs)
-    returns (λ c κs. search needs) returns-2 kept-requires (λ c κs. search needs) mul-t13 element-set-from-self (λ c κs. search needs)
-    returns-3)
+    returns (λ c κs. search needs) returns-2 (λ c κs. search needs) mul-t14 element-set-from-self (λ c κs. search needs) returns-3)

@@ -16,14 +16,14 @@ use Rattle.pool.proofs.stage_two.find_object.Tie as tie
 
 abbrev Inv-loop : tie.InvT-loop
 Inv-loop s ps chain kind n b i₀ i =
-    (find (isObject s kind n) ps (length s) ≡ find (isObject s kind n) (drop i ps) (length s)) × (i < length ps → inChain s (n % 1024) (getD ps i 0) ≡ true)
+    (find (isObject s kind n) ps (length s) ≡ find (isObject s kind n) (drop i ps) (length s)) × (i < length ps → inChain s (n % 16384) (getD ps i 0) ≡ true)
 
 abbrev μ-loop : tie.MeasureT-loop
 μ-loop s ps chain kind n b i₀ i = length ps - i
 
 -- the elements read are numbers of 16 bits
 cast-i : tie.Need-cast-i Inv-loop μ-loop
-cast-i c = omega (arith, c .shared-slice-known4 .given (c .before .before .before .before .args .n % 1024))
+cast-i c = omega (arith, c .shared-slice-known4 .given (c .before .before .before .before .args .n % 16384))
 
 loop-holds : tie.Need-loop-holds Inv-loop μ-loop
 loop-holds c =
@@ -35,11 +35,19 @@ loop-holds c =
 cast-p : tie.Need-cast-p Inv-loop μ-loop
 cast-p c = omega (arith, c .shared-slice-known5 .given (c .before .before .loop .i))
 
-object-number-requires : tie.Need-object-number-requires Inv-loop μ-loop
-object-number-requires c κs = omega (arith, c .shared-slice-known5 .given (c .before .before .loop .i))
+-- at the place stand 8 bytes at least
+u16-in-requires : tie.Need-u16-in-requires Inv-loop μ-loop
+u16-in-requires c κs =
+    let at-loop = c .before .before in
+    omega (arith, at-loop .before .before .before .before .before .pre .within (at-loop .loop .i) (omega arith))
 
-kind-at-requires : tie.Need-kind-at-requires Inv-loop μ-loop
-kind-at-requires c κs = omega (arith, c .before .shared-slice-known5 .given (c .before .before .before .loop .i))
+add-found : tie.Need-add-found Inv-loop μ-loop
+add-found c = omega (arith, c .before .shared-slice-known5 .given (c .before .before .before .loop .i))
+
+shared-slice-read-found : tie.Need-shared-slice-read-found Inv-loop μ-loop
+shared-slice-read-found c =
+    let at-loop = c .before .before .before .before in
+    omega (arith, at-loop .before .before .before .before .before .pre .within (at-loop .loop .i) (omega arith))
 
 returns : tie.Need-returns Inv-loop μ-loop
 unfolding isObject objectOf
@@ -49,15 +57,16 @@ returns c =
     let i = at-loop .loop in
     let a = at-loop .before .before .before .before .before .args in
     let e : isObject (now (a .s)) (a .kind) (a .n) (getD (now (a .ps)) (i .i) 0) ≡ true =
-    simp (← at-number .object-number .ensures, ← c .before .kind-at .ensures) (c .if1 .taken) in (
+    simp (← at-number .u16-in .ensures) (c .if1 .taken) in (
       sym (i .inv .0 ∙ find-here (isObject (now (a .s)) (a .kind) (a .n)) (now (a .ps)) (length (now (a .s))) (i .i) (omega arith) e),
       omega (arith, at-number .before .shared-slice-known5 .given (i .i)),
+      λ _. omega (arith, at-loop .before .before .before .before .before .pre .within (i .i) (omega arith)),
     )
 
 cast-i-2 : tie.Need-cast-i-2 Inv-loop μ-loop
 cast-i-2 c =
     let at-loop = c .before .before .before .before .before .before in
-    omega (arith, c .shared-slice-known6 .given (1024 + at-loop .loop .i))
+    omega (arith, c .shared-slice-known7 .given (16384 + at-loop .loop .i))
 
 loop-less : tie.Need-loop-less Inv-loop μ-loop
 loop-less c =
@@ -77,7 +86,7 @@ loop-again c =
     let at-start = at-loop .before .before .before .before .before in
     let a = at-start .args in
     let e : isObject (now (a .s)) (a .kind) (a .n) (getD (now (a .ps)) (i .i) 0) ≡ false =
-    simp (← at-number .object-number .ensures, ← at-else .before .kind-at .ensures) (at-else .if1 .left) in
+    simp (← at-number .u16-in .ensures) (at-else .if1 .left) in
     let o = chain-next (now (a .s)) (now (a .ps)) (now (a .chain)) (at-start .pre) (a .kind) (a .n) (i .i) (omega arith) (record { same = i .inv .0; holds = i .inv .1 }) e in
     (o .same, o .holds)
 
@@ -88,6 +97,7 @@ returns-2 c =
     let a = c .before .before .before .before .before .before .args in (
       sym (i .inv .0 ∙ find-end (isObject (now (a .s)) (a .kind) (a .n)) (now (a .ps)) (length (now (a .s))) (i .i) (omega arith)),
       omega arith,
+      λ l. let z : ⊥ = omega arith in elim z [ ],
     )
 
 pub find-object-spec : {M : Type 1} → statement M
@@ -95,4 +105,4 @@ find-object-spec =
     tie.close
     (tie.spec
     Inv-loop μ-loop (λ c. search needs) (λ c. omega arith) (λ c. omega arith) cast-i loop-holds (λ c. omega arith) (λ c. omega arith) cast-p
-    object-number-requires kind-at-requires returns (λ c. omega arith) (λ c. omega arith) (λ c. omega arith) cast-i-2 loop-less loop-again returns-2)
+    u16-in-requires add-found shared-slice-read-found returns (λ c. omega arith) (λ c. omega arith) (λ c. omega arith) cast-i-2 loop-less loop-again returns-2)

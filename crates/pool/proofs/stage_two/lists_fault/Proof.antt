@@ -19,7 +19,7 @@ returns c =
     let three = c .before .before in
     let base = three .before .before .before .before .base-at .ensures in
     let absent = rw base at (three .absent-fault .ensures) in
-    rw (← absent) (sym (first-fault _ _ (c .if1 .taken)))
+    (rw (← absent) (sym (first-fault _ _ (c .if1 .taken))), λ e. absurd (c .if1 .taken e))
 
 ids-fault-requires : tie.Need-ids-fault-requires
 ids-fault-requires c κs =
@@ -34,7 +34,7 @@ returns-2 c =
     let base = three .before .before .before .before .base-at .ensures in
     let absent = rw base at (three .absent-fault .ensures) in
     let alike = rw base at (six .ids-fault .ensures) in
-    rw (← absent, ← alike) (sym (first-fine _ _ (six .before .if1 .left) ∙ first-fault _ _ (c .if2 .taken)))
+    (rw (← absent, ← alike) (sym (first-fine _ _ (six .before .if1 .left) ∙ first-fault _ _ (c .if2 .taken))), λ e. absurd (c .if2 .taken e))
 
 states-fault-requires : tie.Need-states-fault-requires
 states-fault-requires c κs = ids-fault-requires (c .before .before .before) κs
@@ -47,10 +47,10 @@ returns-3 c =
     let base = three .before .before .before .before .base-at .ensures in
     let absent = rw base at (three .absent-fault .ensures) in
     let alike = rw base at (six .ids-fault .ensures) in
-    let states = rw base at (c .states-fault .ensures) in
+    let states = rw base at (c .states-fault .ensures .0) in
     let a = three .before .before .before .before .before .before .before .before .args in
     let last = first-last (map (statesAlike (now (a .s)) (now (a .ps)) 0x07) (functionsOf (now (a .s)) (a .b))) in
-    rw (← absent, ← alike) (states ∙ sym (first-fine _ _ (six .before .if1 .left) ∙ first-fine _ _ (c .before .if2 .left) ∙ ap (first _) last))
+    (rw (← absent, ← alike) (states ∙ sym (first-fine _ _ (six .before .if1 .left) ∙ first-fine _ _ (c .before .if2 .left) ∙ ap (first _) last)), λ _. rw base at (c .states-fault .ensures .1))
 
 pub lists-fault-spec : {M : Type 1} → statement M
 lists-fault-spec =

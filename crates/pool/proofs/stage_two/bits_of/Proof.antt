@@ -1,4 +1,4 @@
--- `profile::bits_of` meets its contract. The loop's invariant: the bits are the set of the IDs from here on.
+-- `pool::stage_two::bits_of` meets its contract. The loop's invariant: the bits are the set of the IDs from here on.
 -- The measure is the number of IDs left.
 use Prim.Native.Nat.{ℕ, _+_, _-_, _≤_, _<_}
 use native.Mathlib.Omega.{arith}
@@ -10,11 +10,10 @@ use lib.Seq.{length-take-le, getD-take}
 use borrow.Author.Needs.{needs}
 use borrow.Author.Tests.{lt-ltb, le-ltb}
 use Rattle.octets.specs.Pick.{pick}
-use Rattle.octets.specs.Bits.{withBit}
-use Rattle.profile.specs.Profile.{bitsOf}
-use Rattle.profile.proofs.Laws.{bits-end, bits-next}
-use Rattle.profile.proofs.bits_of.Statement.{statement}
-use Rattle.profile.proofs.bits_of.Tie as tie
+use Rattle.octets.specs.Bits.{withBit, bitsOf}
+use Rattle.octets.proofs.BitLaws.{bits-end, bits-next}
+use Rattle.pool.proofs.stage_two.bits_of.Statement.{statement}
+use Rattle.pool.proofs.stage_two.bits_of.Tie as tie
 
 abbrev Inv-loop : tie.InvT-loop
 Inv-loop count ids bits₀ k₀ bits k = (bits ≡ bitsOf (drop k (take count ids))) × (k ≤ count) × (length ids ≡ 255)
