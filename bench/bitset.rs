@@ -1,5 +1,4 @@
-//! The plain program of which a user would say that it is the fastest: a number or an ID was seen before where its bit is set. All
-//! else is in bench/plain.rs.
+//! The plain program with sets of bits: a number or an ID was seen before where its bit is set. All else is in bench/plain.rs.
 
 use crate::plain::{Plain, Repeats};
 

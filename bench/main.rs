@@ -3,7 +3,8 @@
 //! moves, in copies of a master, and that it takes of the stack; and what a start-up waits for, beside two plain programs
 //! (bench/start.rs). Under an emulator only ratios and bytes mean something. With the argument `bytes` it counts these alone,
 //! with `start` it measures a start-up alone. Fails where the library differs from model or program, where a limit below is
-//! missed, where a cost is plainly quadratic, and where the library is slower than a program that checks every pair.
+//! missed, where a cost is plainly quadratic, and where a full pool is checked, kept or attached in no less time than by a
+//! program that checks every pair.
 
 #![deny(warnings)]
 

@@ -2,7 +2,7 @@
 //! to A.3 of ISO 11783-14: all that the programs of bench/pairwise.rs and bench/bitset.rs share. They differ in how a value that
 //! was seen before is found, and are compiled each for itself. Sentences of 01 are quoted above the lines that follow them.
 //!
-//! Nothing is allocated in a check: its arrays are made once and serve for every pool.
+//! Nothing is allocated in a check: its two large arrays are made once and serve for every pool.
 
 use crate::library::{Label, Profile, NO_LABEL, NO_PROFILE};
 use std::marker::PhantomData;

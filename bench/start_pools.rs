@@ -1,5 +1,5 @@
-//! Full pools for what a driver waits for at start-up: of each shape good ones, and for each fault one whose cause is the last
-//! object. All have 16,384 bytes.
+//! Full pools for what a driver waits for at start-up: of each shape good ones, and for each fault but 02 one or more whose cause
+//! is the last object. All have 16,384 bytes.
 
 use crate::generate::{Pool, Random, FULL};
 use crate::pools::shaped;
@@ -233,7 +233,7 @@ fn stage_one(shape: &Shape) -> Vec<Case> {
     ]
 }
 
-/// Faults that stage two finds, and by which the last object is to blame.
+/// Faults that stage two finds. The last object is to blame, but for 02, for which none is.
 fn stage_two(shape: &Shape) -> Vec<Case> {
     let full = shape.filled(FULL);
     let case = |fault, code, pool| shape.case(fault, Group::StageTwo, code, pool);

@@ -1,6 +1,6 @@
 // Numbers in byte slices, least significant byte first, and sets of small numbers as bits.
-// A byte past the end of a slice is read as 0 and is not written, so a call of `.._at` or `put` has not to show that it is within; one of `.._in` has,
-// and makes no test.
+// A byte past the end of a slice is read as 0 and is not written, so a call of `.._at` or `put` has not to show that it is within; one of `.._in`
+// has, and one of `put_bytes`, and makes no test.
 ghost use mathlib.Core.Path.{_≡_};
 ghost use Prim.Native.Nat.{_+_, _≤_, _<_, _^_};
 ghost use lib.ListN.{length, getD, set};

@@ -1,5 +1,5 @@
 -- The laws of the walk of stage one: what is known of an object without a fault, where the base stands that is met first, and what holds at each turn.
-use Prim.Native.Nat.{ℕ, _+_, _*_, _≤_, _<_}
+use Prim.Native.Nat.{ℕ, suc, _+_, _*_, _≤_, _<_}
 use native.Mathlib.Omega.{arith}
 use mathlib.Core.Path.{_≡_, refl, _∙_}
 use mathlib.Core.List.{List, [], _∷_, _++_}
@@ -52,6 +52,11 @@ unfolding pick
 right-where-fine true = refl
 right-where-fine false = refl
 
+-- an object of another type is no base
+pub no-base : (s : List ℕ) (at k b : ℕ) → kindAt s at ≡ suc k → baseFrom s at b ≡ b
+unfolding isObject
+no-base s at k b e = pick-false _ at b (simp (ne-eqb (kindAt s at) baseType (λ z. omega (arith, e)), and-false))
+
 -- ---- a state
 
 module _ (s : List ℕ) (at : ℕ) (k : kindAt s at ≡ stateType) where
@@ -59,22 +64,12 @@ module _ (s : List ℕ) (at : ℕ) (k : kindAt s at ≡ stateType) where
   unfolding fixedOf restAt pick
   state-size = rw k
 
-  -- it is no base
-  pub state-base : (b : ℕ) → baseFrom s at b ≡ b
-  unfolding isObject
-  state-base b = pick-false _ at b (simp (k, and-false))
-
 -- ---- a function
 
 module _ (s : List ℕ) (at : ℕ) (k : kindAt s at ≡ functionType) where
   pub function-size : sizeAt s at ≡ functionFixed + 2 * functionAt s at .s
   unfolding fixedOf restAt pick
   function-size = rw k
-
-  -- it is no base
-  pub function-base : (b : ℕ) → baseFrom s at b ≡ b
-  unfolding isObject
-  function-base b = pick-false _ at b (simp (k, and-false))
 
 -- ---- the base
 

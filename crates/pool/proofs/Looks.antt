@@ -4,14 +4,14 @@ use native.Mathlib.Numerals.{add-one}
 use native.Mathlib.Omega.{arith}
 use mathlib.Core.Path.{_≡_, refl, sym, ap, _∙_}
 use mathlib.Core.Bool.{Bool, true, false}
-use mathlib.Core.List.{List, [], _∷_, map}
+use mathlib.Core.List.{List, _∷_, map}
 use lib.Dec.{leb, eqb}
 use lib.ListN.{length, getD, drop, set, length-map, drop-of-length-le}
 use lib.Seq.{drop-cons, getD-set-same, getD-set-other}
 use borrow.Author.Tests.{lt-leb, lt-ltb, eqb-true, eqb-false}
 use Rattle.octets.specs.Pick.{pick}
 use Rattle.octets.specs.Bits.{hasBit, withBit, bitsOf}
-use Rattle.octets.proofs.BitLaws.{bits-end, bits-next}
+use Rattle.octets.proofs.BitLaws.{bits-end}
 use Rattle.pool.specs.Verdicts.{fine, firstFault}
 use Rattle.pool.specs.Fields.{stateType, idAt}
 use Rattle.pool.specs.StageTwo.{objectOf, idOf, isIn, statesListed, absentFault, idsFault}

@@ -145,7 +145,7 @@ pub fn head_at(s: &[u8], at: usize) -> Head
     Head::State(state_at(s, at))
 }
 
-pub fn fixed_of(kind: u8) -> usize
+fn fixed_of(kind: u8) -> usize
     ensures { λ r. ⌜ r ≡ fixedOf kind ⌝ }
     ensures { λ r. ⌜ r ≤ 30 ⌝ }
 {

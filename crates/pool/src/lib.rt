@@ -93,7 +93,7 @@ pub enum Head {
     State(StateHead),
 }
 
-// The walk of stage one, and then the rules that need no list: their verdict stands in place of stage one's.
+// The walk of stage one and, where it finds no fault, the rules that need no list: then their verdict stands in the place of stage one's.
 pub fn before_lists(pool: &[u8], places: &mut [u16]) -> Walked
     requires { ⌜ (length (now pool) ≤ 16384) × (length (now places) ≡ 2048) ⌝ }
     ensures { λ r. ⌜ r .verdict ≡ first (stageOne (now (pool .entry))) (firstOf (take 4 (rules (now (pool .entry))))) ⌝ }

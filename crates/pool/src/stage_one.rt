@@ -145,7 +145,7 @@ fn right_function(s: &[u8], at: usize) -> bool
     function_right(function_in(s, at))
 }
 
-// Where the first base stands, if none was met before this object.
+// Where the first base stands, this object taken in: at it, if it is one and none was met before.
 fn base_from(s: &[u8], at: usize, base: usize) -> usize
     requires { ⌜ at < 65536 ⌝ }
     ensures { λ r. ⌜ r ≡ baseFrom (now (s .entry)) at base ⌝ }
@@ -165,8 +165,8 @@ pub struct Walked {
     pub base: usize,
 }
 
-// An object has 8 bytes at least, so a pool holds at most 2,048. Most are states, then functions, and these are judged first: a base, and an object
-// with a fault, once.
+// An object has 8 bytes at least, so a pool holds at most 2,048. Most are states, then functions, so it is asked first whether one of these stands there
+// without a fault; a base, and the object at fault, come to `code_at`.
 pub fn stage_one(s: &[u8], places: &mut [u16]) -> Walked
     requires { ⌜ (length (now s) ≤ 16384) × (length (now places) ≡ 2048) ⌝ }
     ensures { λ r. ⌜ r .verdict ≡ stageOne (now (s .entry)) ⌝ }

@@ -66,7 +66,7 @@ pub fn find_object(s: &[u8], ps: &[u16], chain: &[u16], kind: u8, n: u16) -> usi
 }
 
 // The ID of each object of this type in the list of count numbers at a place, at the front; the other cells are 0.
-pub fn ids_of(s: &[u8], ps: &[u16], chain: &[u16], kind: u8, at: usize, count: usize) -> [u16; 255]
+fn ids_of(s: &[u8], ps: &[u16], chain: &[u16], kind: u8, at: usize, count: usize) -> [u16; 255]
     requires { ⌜ Indexed (now s) (now ps) (now chain) × (at < 131072) × (count ≤ 255) ⌝ }
     ensures { λ r. ⌜ (take count r ≡ map (idOf (now (s .entry)) (now (ps .entry)) kind) (numbersAt 2 (now (s .entry)) at count)) × (drop count r ≡ replicate (255 - count) 0) ⌝ }
 {
@@ -272,9 +272,9 @@ fn set_at(s: &[u8], ps: &[u16], chain: &[u16], at: usize, count: usize) -> u64
 }
 
 // What one look at a list of states tells: where it is right, no state is absent and no ID stands twice, and this is the set of the IDs.
-pub struct Looked {
-    pub right: bool,
-    pub ids: u64,
+struct Looked {
+    right: bool,
+    ids: u64,
 }
 
 const NOT_RIGHT: Looked = Looked {

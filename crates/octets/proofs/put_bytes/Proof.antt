@@ -1,12 +1,10 @@
 -- `octets::put_bytes` meets its contract. The loop's invariant: what is to be stored from the start is what is to be stored from here.
 -- The measure is what is left of the bytes.
-use Prim.Native.Nat.{ℕ, suc, _+_, _-_, _≤_}
-use native.Mathlib.Nat.{add-zero}
-use native.Mathlib.Numerals.{add-one}
+use Prim.Native.Nat.{_+_, _-_, _≤_}
 use native.Mathlib.Omega.{arith}
-use mathlib.Core.Path.{_≡_, refl, sym, ap, _∙_}
+use mathlib.Core.Path.{_≡_, refl, sym, _∙_}
 use lib.ListN.{length, drop, length-set}
-use lib.Seq.{sets, length-sets, drop-cons}
+use lib.Seq.{sets}
 use denote.Ref.{now}
 use Rattle.octets.proofs.Laws.{stored-start, stored-step, stored-end}
 use Rattle.octets.proofs.put_bytes.Statement.{statement}

@@ -1,6 +1,6 @@
 -- `pool::check` meets its contract: the first verdict with a fault is the one returned.
 use native.Mathlib.Omega.{arith}
-use mathlib.Core.Path.{_≡_, refl, sym, ap, _∙_}
+use mathlib.Core.Path.{refl, sym, ap, _∙_}
 use mathlib.Core.List.{List}
 use lib.ListN.{drop}
 use lib.Seq.{length-take-le}

@@ -1,4 +1,4 @@
--- What the walk of stage one leaves in the lent cells, where it finds no fault: the places of the pool's objects at the front, and that of its base;
+-- What the walk of stage one leaves, where it finds no fault: the places of the pool's objects at the front of the lent cells, and that of its base;
 -- and how the verdict comes together.
 use Prim.Native.Nat.{ℕ, _≤_}
 use mathlib.Core.Path.{_≡_}

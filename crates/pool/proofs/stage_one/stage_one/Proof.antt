@@ -1,5 +1,5 @@
 -- `pool::stage_one::stage_one` meets its contract. The loop's invariant is `Turn` of Base.antt: it holds after an object without a fault, and a state
--- without a fault has 8 bytes and is no base. The measure is what is left of the length.
+-- or a function without a fault has a known length and is no base. The measure is what is left of the length.
 use Prim.Native.Nat.{_-_}
 use native.Mathlib.Omega.{arith}
 use mathlib.Core.Path.{_≡_, refl, sym, ap, subst, _∙_}
@@ -16,7 +16,7 @@ use Rattle.pool.specs.Search.Index.{Within}
 use Rattle.pool.proofs.Walk.{size-least, places-end}
 use Rattle.pool.proofs.Faults.{walk-end, walk-here}
 use Rattle.pool.proofs.Within.{within-places}
-use Rattle.pool.proofs.Base.{state-size, state-base, function-size, function-base, base-start, base-end, Turn, turn-next}
+use Rattle.pool.proofs.Base.{no-base, state-size, function-size, base-start, base-end, Turn, turn-next}
 use Rattle.pool.proofs.stage_one.stage_one.Statement.{statement}
 use Rattle.pool.proofs.stage_one.stage_one.Tie as tie
 
@@ -47,7 +47,7 @@ loop-again c =
     let s = now (start .args .s) in
     let right = both (eqb (codeAt s (i .at)) 0) (eqb (kindAt s (i .at)) stateType) (sym (c .before .right-state .ensures) ∙ c .if1 .taken) in
     let is : kindAt s (i .at) ≡ stateType = eqb-true _ _ (right .1) in
-    rw (state-size s (i .at) is, state-base s (i .at) is (i .base)) at
+    rw (state-size s (i .at) is, no-base s (i .at) 1 (i .base) is) at
     (turn-next s (i .places) (i .count) (i .base) (i .at) (i .inv) (start .pre .0) (omega arith) (eqb-true _ _ (right .0)))
 
 -- a function without a fault
@@ -60,7 +60,7 @@ loop-again-2 c =
     let s = now (start .args .s) in
     let right = both (eqb (codeAt s (i .at)) 0) (eqb (kindAt s (i .at)) functionType) (sym (at-function .right-function .ensures) ∙ c .before .if2 .taken) in
     let is : kindAt s (i .at) ≡ functionType = eqb-true _ _ (right .1) in
-    rw (function-size s (i .at) is, ← c .state-count .ensures, function-base s (i .at) is (i .base)) at
+    rw (function-size s (i .at) is, ← c .state-count .ensures, no-base s (i .at) 0 (i .base) is) at
     (turn-next s (i .places) (i .count) (i .base) (i .at) (i .inv) (start .pre .0) (omega arith) (eqb-true _ _ (right .0)))
 
 -- a fault here is the first of the pool
