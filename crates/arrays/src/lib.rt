@@ -1,4 +1,6 @@
 // Arrays of which the first cells are used: how loops over them are defined and what is known of them stands in specs/ and proofs/.
+#![tactic(auto)]
+
 ghost use Rattle.std.specs.Prelude.{◌≡◌, min};
 ghost use Rattle.arrays.specs.Arrays.{more};
 

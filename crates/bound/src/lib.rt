@@ -1,4 +1,6 @@
 // Each call for C gives back what the definitions say of which the theorems speak: nothing is added here, each function only makes the call.
+#![tactic(auto)]
+
 ghost use Rattle.std.specs.Prelude.{[]};
 ghost use Rattle.events.specs.Events.{on, off, «record», stop, cancel, start, abort, attach, enable, disable, report, lost, indication, client_abort, tick, answer, store, load, edition};
 ghost use Rattle.bound.specs.Exported.{Allowed, AllowedText, Determined};

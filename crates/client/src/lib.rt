@@ -1,4 +1,6 @@
 // A client: what the master keeps in its slot, and its record in a sequence.
+#![tactic(auto)]
+
 ghost use Rattle.std.specs.Prelude.{◌≡◌};
 ghost use Rattle.arrays.specs.Arrays.{some};
 ghost use Rattle.client.specs.Clients.{is_taken, is_enabled, is_awake, is_named, is_other, passes, blank_slot, attached, with_wanted, with_report};

@@ -1,4 +1,6 @@
 // A message as a C caller has it: numbers only, with the label's bytes.
+#![tactic(auto)]
+
 ghost use Rattle.std.specs.Prelude.{◌≡◌, [], length};
 ghost use Rattle.message.specs.Messages.{written_of, written_over};
 ghost use Rattle.flat.specs.Flat.{kind_of, bare_flat, execution_step, reply_step, order_step, receipt_step, flat_of, stated, execution_from, reply_from, receipt_from, message_from, reading_of, BackAgain};

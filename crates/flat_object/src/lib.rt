@@ -1,4 +1,6 @@
 // An object of a pool as a struct of numbers, for C.
+#![tactic(auto)]
+
 ghost use Rattle.std.specs.Prelude.{◌≡◌};
 ghost use Rattle.objects.specs.Objects.{found_at, write_answer, write_out};
 ghost use Rattle.objects.specs.declared.Kind.TheVariants.{Of, Refused};

@@ -1,4 +1,6 @@
 // Recording, loading and editions over every run of calls: nothing is done, the contracts say it.
+#![tactic(auto)]
+
 ghost use Rattle.history.specs.Promises.{Counting, Attaching, Answering, Opening, Promises};
 
 // What is counted is the ticks since the recording began.

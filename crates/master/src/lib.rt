@@ -1,4 +1,6 @@
 // The master: its states, and a method for each event, which takes the old state and hands the new one back.
+#![tactic(auto)]
+
 ghost use Rattle.std.specs.Prelude.{◌≡◌, ◌<◌, ◌≤◌, length};
 ghost use Rattle.recording.specs.State.{blank_recording};
 ghost use Rattle.playback.specs.State.{blank_playback};

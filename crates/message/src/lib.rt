@@ -1,4 +1,6 @@
 // Messages C.2 to C.5, D.2 to D.15 and E.2 to E.8 of ISO 11783-14: read, by the side that sent them, and written.
+#![tactic(auto)]
+
 ghost use Rattle.std.specs.Prelude.{◌≡◌, [], ◌-◌, length};
 ghost use Rattle.octets.specs.Label.{blank};
 ghost use Rattle.message.specs.Messages.{read_of, pool_of, written_of, written_over};

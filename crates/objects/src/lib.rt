@@ -1,4 +1,6 @@
 // An object of a pool by value: read off the pool's bytes, judged, and written as bytes again.
+#![tactic(auto)]
+
 mod legal;
 mod parts;
 mod read;

@@ -1,6 +1,8 @@
 // Numbers in byte slices, least significant byte first, and sets of small numbers as bits.
 // A byte past the end of a slice is read as 0 and is not written, so a call of `.._at` or `put` has not to show that it is within; one of `.._in`
 // has, and one of `put_bytes`, and makes no test.
+#![tactic(auto)]
+
 ghost use Rattle.std.specs.Prelude.{◌≡◌, ◌+◌, ◌≤◌, ◌<◌, ◌^◌, length, get_or, set};
 ghost use Rattle.std.proofs.lemmas.List.Edits.{sets};
 ghost use Rattle.octets.specs.Octets.{number_at, bytes_of};

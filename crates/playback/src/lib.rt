@@ -1,4 +1,6 @@
 // Playback: verification in its order, which step leaves at a tick, the frames of a tick, and what an answer does.
+#![tactic(auto)]
+
 ghost use Rattle.std.specs.Prelude.{◌≡◌, ◌++◌, ◌≤◌, ◌<◌, length, drop};
 ghost use Rattle.playback.specs.State.{blank_sent, blank_playback};
 ghost use Rattle.playback.specs.Verification.{verify_of};

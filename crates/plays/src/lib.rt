@@ -1,4 +1,6 @@
 // When the steps of a playback leave, what stands in their frames, and when it ends: theorems on the master, through any calls.
+#![tactic(auto)]
+
 ghost use Rattle.plays.specs.Leavings.{Leavings};
 ghost use Rattle.plays.specs.Frames.{Frames};
 ghost use Rattle.plays.specs.FiveASecond.{FiveASecond};

@@ -1,4 +1,6 @@
 // The object pool of a client (ISO 11783-14, annex A): its objects, and the check that takes or refuses it with a code of D.9.
+#![tactic(auto)]
+
 pub mod fields;
 pub mod ranges;
 pub mod stage_one;

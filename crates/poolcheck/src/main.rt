@@ -1,4 +1,6 @@
 // Reads a pool from standard input to its end, and writes the verdict on it as a line.
+#![tactic(auto)]
+
 ghost use Rattle.std.specs.Prelude.{◌≡◌, ◌<◌};
 ghost use Rattle.poolcheck.specs.Line.{digit_of, line_of};
 

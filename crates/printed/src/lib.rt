@@ -1,4 +1,6 @@
 // The shown value as text, from the exact sum and the exact scale as whole numbers: what is printed is never made from what was rounded.
+#![tactic(auto)]
+
 ghost use Rattle.std.specs.Prelude.{◌≡◌, true, ◌≤◌};
 ghost use Rattle.std.specs.Float.{binary32};
 ghost use Rattle.std.specs.Float.Ieee.{of_bits};

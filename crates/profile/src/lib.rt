@@ -1,4 +1,6 @@
 // What the master keeps of an accepted pool: the bytes stay with the host.
+#![tactic(auto)]
+
 ghost use Rattle.std.specs.Prelude.{◌≡◌, ◌≤◌, ◌<◌};
 ghost use Rattle.octets.specs.Bits.{bits_of};
 ghost use Rattle.pool.specs.Fields.{numbers_at, functions_of};

@@ -1,4 +1,6 @@
 // The demands as theorems, over the definitions that the contracts of the calls cite: nothing is done here, the contract says it.
+#![tactic(auto)]
+
 ghost use Rattle.promises.specs.Promises.{Promises};
 
 // All that is promised.

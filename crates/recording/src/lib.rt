@@ -1,4 +1,6 @@
 // Recording: the steps taken so far, what an E.4 does, and what stays at the end.
+#![tactic(auto)]
+
 ghost use Rattle.std.specs.Prelude.{◌≡◌, ◌<◌, ◌&&◌, ltb, take};
 ghost use Rattle.octets.specs.Pick.{pick};
 ghost use Rattle.octets.specs.Bits.{has_bit};

@@ -1,4 +1,6 @@
 // A pool is taken apart object by object and written again.
+#![tactic(auto)]
+
 ghost use Rattle.std.specs.Prelude.{◌≡◌, ◌≤◌, length};
 ghost use Rattle.pool.specs.Pool.{verdict_of};
 ghost use Rattle.rewrite.specs.Rewrite.{again, rewrite_answer, rewrite_out};

@@ -1,4 +1,6 @@
 // The calls for C, as include/scm.h declares them: each hands its numbers and slices to a crate below and says what that crate's definition says.
+#![tactic(auto)]
+
 ghost use Rattle.std.specs.Prelude.{◌≡◌, [], length};
 ghost use Rattle.std.specs.Float.{binary32};
 ghost use Rattle.std.specs.Float.Ieee.{of_bits};

@@ -1,4 +1,6 @@
 // What is seen of the master: events in, numbers and bytes out. Nothing is done here, each contract says what holds.
+#![tactic(auto)]
+
 ghost use Rattle.seen.specs.Written.{Written};
 ghost use Rattle.seen.specs.Numbers.{Numbers};
 ghost use Rattle.seen.specs.Ways.{Ways};

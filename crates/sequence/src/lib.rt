@@ -1,4 +1,6 @@
 // A sequence: the steps that a recording has kept or that blocks said, the records of their clients, and its edition.
+#![tactic(auto)]
+
 ghost use Rattle.std.specs.Prelude.{◌≡◌};
 ghost use Rattle.sequence.specs.Sequence.{blank_step, blank_sequence, length_of};
 ghost use Rattle.sequence.specs.Editions.{is_edition, with_edition};

@@ -1,4 +1,6 @@
 // A sequence as blocks of 512 bytes, each with its own check: where they hold what, and what the check is. The layout stands in specs/Blocks.antt.
+#![tactic(auto)]
+
 ghost use Rattle.std.specs.Prelude.{◌≡◌, ◌+◌, ◌≤◌, ◌<◌, ◌^◌};
 ghost use Rattle.store.specs.Blocks.{sum_at, check_at, client_blocks, step_blocks, blocks_for, used_bytes, client_place, step_place};
 ghost use Rattle.store.specs.Promises.{Promises};

@@ -1,5 +1,7 @@
 // "The screen reads a pool through a window on the lent bytes that remembers its place" (01, "The pool"). Each function over a window takes it
 // apart and calls one on the bytes and the place.
+#![tactic(auto)]
+
 ghost use Rattle.std.specs.Prelude.{◌≡◌, leb, length, drop};
 ghost use Rattle.objects.specs.Objects.{next_at, found_at};
 
