@@ -25,7 +25,7 @@ pub const ABORT: u8 = 5;
 
 // taken and wanted are 0 for no; any other number is yes. An empty slot is blank.
 #[repr(C)]
-#[derive(Drop)]
+#[derive(Clone, Copy)]
 pub struct Client {
     pub taken: u8,
     pub wanted: u8,
@@ -36,7 +36,7 @@ pub struct Client {
 
 // What a sequence keeps of a client. used is 0 for no; any other number is yes.
 #[repr(C)]
-#[derive(Drop)]
+#[derive(Clone, Copy)]
 pub struct ClientRecord {
     pub used: u8,
     pub name: u64,
@@ -46,7 +46,7 @@ pub struct ClientRecord {
 }
 
 // What a slot may be asked.
-#[derive(Drop)]
+#[derive(Clone, Copy)]
 pub enum Test {
     // A client is attached that last reported something else than disabled.
     Awake,

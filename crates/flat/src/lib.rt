@@ -14,7 +14,7 @@ pub mod kinds;
 
 // E.4 to E.8. A message that lacks one of the fields has 0 there, and it is not looked at.
 #[repr(C)]
-#[derive(Drop)]
+#[derive(Clone, Copy)]
 pub struct MessageStep {
     pub function: u8,
     pub state: u8,
@@ -25,7 +25,7 @@ pub struct MessageStep {
 }
 
 #[repr(C)]
-#[derive(Drop)]
+#[derive(Clone, Copy)]
 pub struct Flat {
     // As module kinds has it.
     pub kind: u8,
@@ -46,7 +46,7 @@ pub struct Flat {
 }
 
 #[repr(C)]
-#[derive(Drop)]
+#[derive(Clone, Copy)]
 pub struct FlatReading {
     pub number: u8,
     pub message: Flat,

@@ -22,7 +22,7 @@ const NONE: u8 = 255;
 // An object as C has it: numbers only. As it is read, those that a kind does not have are 0. standard is the version of the standard; n and m are the labels'
 // lengths, count that of the list.
 #[repr(C)]
-#[derive(Drop)]
+#[derive(Clone, Copy)]
 pub struct FlatObject {
     pub kind: u8,
     pub place: usize,

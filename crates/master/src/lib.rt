@@ -36,7 +36,7 @@ pub const ABORT: u8 = 5;
 
 // tan is the TAN of the last command. recording is blank outside record and record complete, playback outside playback.
 #[repr(C)]
-#[derive(Drop)]
+#[derive(Clone, Copy)]
 pub struct Master {
     pub state: u8,
     pub tan: u8,
@@ -48,7 +48,7 @@ pub struct Master {
 
 // What a call gives back. With number 6 code and object are the pool's; count is the frames of a tick, or the bytes that a store wrote. All else is 0.
 #[repr(C)]
-#[derive(Drop)]
+#[derive(Clone, Copy)]
 pub struct Outcome {
     pub number: u8,
     pub code: u8,
@@ -58,7 +58,7 @@ pub struct Outcome {
 }
 
 // Neither a recording nor a playback. It has several callers, so that it is not inlined and the small methods around it are: no master is copied for it.
-#[derive(Drop)]
+#[derive(Clone, Copy)]
 pub(crate) struct Blank {
     pub(crate) recording: Recording,
     pub(crate) playback: Playback,

@@ -15,7 +15,7 @@ use sequence::{MOST_STEPS, Sequence, Step, blank_step};
 
 // number is 0, or 3 where there is no such slot, and all else is 0 then.
 #[repr(C)]
-#[derive(Drop)]
+#[derive(Clone, Copy)]
 pub struct SlotView {
     pub number: u8,
     pub taken: u8,
@@ -26,7 +26,7 @@ pub struct SlotView {
 
 // number is 0, or 3 past the last step, and all else is 0 then.
 #[repr(C)]
-#[derive(Drop)]
+#[derive(Clone, Copy)]
 pub struct StepView {
     pub number: u8,
     pub step: Step,
@@ -34,7 +34,7 @@ pub struct StepView {
 
 // number is 0, or 3 where there is no such slot, and all else is 0 then.
 #[repr(C)]
-#[derive(Drop)]
+#[derive(Clone, Copy)]
 pub struct ClientView {
     pub number: u8,
     pub client: ClientRecord,
@@ -42,7 +42,7 @@ pub struct ClientView {
 
 // The ticks and millimetres of a recording or a playback so far, and how many steps are taken or have left.
 #[repr(C)]
-#[derive(Drop)]
+#[derive(Clone, Copy)]
 pub struct Progress {
     pub ticks: u32,
     pub distance: u32,
@@ -51,7 +51,7 @@ pub struct Progress {
 
 // number is 0, or 3 past the last step that is taken, and all else is 0 then.
 #[repr(C)]
-#[derive(Drop)]
+#[derive(Clone, Copy)]
 pub struct TakenView {
     pub number: u8,
     pub taken: Taken,
@@ -59,7 +59,7 @@ pub struct TakenView {
 
 // number is 0, or 3 past the last command that has left, and all else is 0 then.
 #[repr(C)]
-#[derive(Drop)]
+#[derive(Clone, Copy)]
 pub struct SentView {
     pub number: u8,
     pub sent: Sent,

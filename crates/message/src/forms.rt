@@ -16,7 +16,7 @@ use octets::{byte_at, put_bytes};
 const FF: u8 = 0xFF;
 
 // A message as it is written, beside a label and a pool of given lengths.
-#[derive(Drop)]
+#[derive(Clone, Copy)]
 pub struct Form {
     // Each field has a value that it allows.
     pub allowed: bool,

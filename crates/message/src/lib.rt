@@ -22,7 +22,7 @@ pub const CLIENT: u32 = 0;
 pub const MASTER: u32 = 1;
 
 // The execution status of E.4, E.5, E.7 and E.8: bits 7 and 8 of byte 3.
-#[derive(Drop)]
+#[derive(Clone, Copy)]
 pub enum Status {
     AtOnce,
     Started,
@@ -32,7 +32,7 @@ pub enum Status {
 
 // C.3. The last four are the font's.
 #[repr(C)]
-#[derive(Drop)]
+#[derive(Clone, Copy)]
 pub struct Capability {
     pub version: u8,
     pub width: u8,
@@ -45,7 +45,7 @@ pub struct Capability {
 }
 
 // E.4.
-#[derive(Drop)]
+#[derive(Clone, Copy)]
 pub struct Execution {
     pub function: u8,
     pub state: u8,
@@ -55,7 +55,7 @@ pub struct Execution {
 }
 
 // E.5 and E.7.
-#[derive(Drop)]
+#[derive(Clone, Copy)]
 pub struct Reply {
     pub function: u8,
     pub state: u8,
@@ -65,7 +65,7 @@ pub struct Reply {
 }
 
 // E.6.
-#[derive(Drop)]
+#[derive(Clone, Copy)]
 pub struct Order {
     pub function: u8,
     pub state: u8,
@@ -74,7 +74,7 @@ pub struct Order {
 }
 
 // E.8.
-#[derive(Drop)]
+#[derive(Clone, Copy)]
 pub struct Receipt {
     pub function: u8,
     pub state: u8,
@@ -83,7 +83,7 @@ pub struct Receipt {
 }
 
 // The label of D.3 and D.5 and the pool of D.6 stand beside the message.
-#[derive(Drop)]
+#[derive(Clone, Copy)]
 pub enum Message {
     // None: what a refused reading holds.
     Nothing,
@@ -140,7 +140,7 @@ pub enum Message {
 }
 
 // Where number is not 0, message is Nothing and label is blank.
-#[derive(Drop)]
+#[derive(Clone, Copy)]
 pub struct Reading {
     pub number: u8,
     pub message: Message,
@@ -149,7 +149,7 @@ pub struct Reading {
 
 // Where number is not 0, length is 0.
 #[repr(C)]
-#[derive(Drop)]
+#[derive(Clone, Copy)]
 pub struct Written {
     pub number: u8,
     pub length: usize,

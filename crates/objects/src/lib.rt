@@ -15,14 +15,14 @@ use octets::numbers::{DONE, TOO_SHORT, WRONG_VALUE};
 use pool::Head;
 
 // The type of an object with the numbers of its fixed part; or the place at which no object could be read.
-#[derive(Drop)]
+#[derive(Clone, Copy)]
 pub enum Kind {
     Of(Head),
     Refused(usize),
 }
 
 // The labels and the list stand at the front of their cells. The other cells are 0.
-#[derive(Drop)]
+#[derive(Clone, Copy)]
 pub struct Object {
     pub kind: Kind,
     pub version: [u8; 63],
@@ -31,7 +31,7 @@ pub struct Object {
 }
 
 // An object and the place after it; of a refusal, the place at which it stands.
-#[derive(Drop)]
+#[derive(Clone, Copy)]
 pub struct Found {
     pub object: Object,
     pub next: usize,
@@ -39,7 +39,7 @@ pub struct Found {
 
 // The number that a call gives, and the place after what it wrote; of a refusal, the place itself.
 #[repr(C)]
-#[derive(Drop)]
+#[derive(Clone, Copy)]
 pub struct Written {
     pub number: u8,
     pub next: usize,

@@ -6,7 +6,7 @@ use crate::Kind;
 use pool::{BASE_FIXED, FUNCTION_FIXED, Head, STATE_FIXED};
 
 // The bytes of the fixed part and of the labels, and the count of the numbers listed.
-#[derive(Drop)]
+#[derive(Clone, Copy)]
 pub struct Parts {
     pub fixed: u8,
     pub version: u8,

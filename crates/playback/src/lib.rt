@@ -43,7 +43,7 @@ const ANSWER_TICKS: u64 = 16;
 
 // A step that has left: its TAN, its answer, and the tick at which it first left.
 #[repr(C)]
-#[derive(Drop)]
+#[derive(Clone, Copy)]
 pub struct Sent {
     pub tan: u8,
     pub answer: u8,
@@ -52,7 +52,7 @@ pub struct Sent {
 
 // ticks and distance are counted since the start; the first sent of commands belong to the steps that have left. Unused cells are blank.
 #[repr(C)]
-#[derive(Drop)]
+#[derive(Clone, Copy)]
 pub struct Playback {
     pub ticks: u32,
     pub distance: u32,
@@ -62,7 +62,7 @@ pub struct Playback {
 
 // After a tick: what becomes of it, and the TAN of the last command.
 #[repr(C)]
-#[derive(Drop)]
+#[derive(Clone, Copy)]
 pub struct Ticked {
     pub end: u8,
     pub tan: u8,
@@ -71,7 +71,7 @@ pub struct Ticked {
 
 // After an answer: whether it matched, and what becomes of it.
 #[repr(C)]
-#[derive(Drop)]
+#[derive(Clone, Copy)]
 pub struct Answered {
     pub number: u8,
     pub end: u8,

@@ -12,7 +12,7 @@ use sequence::{MOST_STEPS, Sequence, Step};
 
 // Of the numbers that a start gives, slot is that of 8, 9, 10, 11 and 12, step that of 11; else they are 0.
 #[repr(C)]
-#[derive(Drop)]
+#[derive(Clone, Copy)]
 pub struct Named {
     pub number: u8,
     pub slot: usize,

@@ -19,7 +19,7 @@ use crate::stage_one::Walked;
 
 // A code of D.9, 0 for success, and the number of the object it is about.
 #[repr(C)]
-#[derive(Drop)]
+#[derive(Clone, Copy)]
 pub struct Verdict {
     pub code: u8,
     pub object: u16,
@@ -52,7 +52,7 @@ pub const FUNCTION_FIXED: usize = 30;
 pub const STATE_FIXED: usize = 8;
 
 // The fixed part of a base: table A.1, bytes 1 to 27. n and m are the labels' lengths, o the number of functions listed.
-#[derive(Drop)]
+#[derive(Clone, Copy)]
 pub struct BaseHead {
     pub number: u16,
     pub version: u8,
@@ -66,7 +66,7 @@ pub struct BaseHead {
 }
 
 // The fixed part of a function: table A.2, bytes 1 to 30. The offset and the scale are their bits; s is the number of states listed.
-#[derive(Drop)]
+#[derive(Clone, Copy)]
 pub struct FunctionHead {
     pub number: u16,
     pub function: u8,
@@ -84,7 +84,7 @@ pub struct FunctionHead {
 }
 
 // A state: table A.3.
-#[derive(Drop)]
+#[derive(Clone, Copy)]
 pub struct StateHead {
     pub number: u16,
     pub state: u8,
@@ -92,7 +92,7 @@ pub struct StateHead {
     pub picture: u16,
 }
 
-#[derive(Drop)]
+#[derive(Clone, Copy)]
 pub enum Head {
     Base(BaseHead),
     Function(FunctionHead),

@@ -143,7 +143,7 @@ fn base_from(s: &[u8], at: usize, base: usize) -> usize
 }
 
 // The verdict of stage one; where it finds no fault, how many objects there are and where the first base stands, the pool's length if nowhere.
-#[derive(Drop)]
+#[derive(Clone, Copy)]
 pub struct Walked {
     pub verdict: Verdict,
     pub count: usize,

@@ -258,7 +258,7 @@ fn set_at(s: &[u8], ps: &[u16], chain: &[u16], at: usize, count: usize) -> u64
 }
 
 // What one look at a list of states tells: where it is right, no state is absent and no ID stands twice, and this is the set of the IDs.
-#[derive(Drop)]
+#[derive(Clone, Copy)]
 struct Looked {
     right: bool,
     ids: u64,
@@ -296,7 +296,7 @@ fn look(s: &[u8], ps: &[u16], chain: &[u16], at: usize, count: usize) -> Looked
 }
 
 // What is found in the list of a function's states: the first that is absent, the first with the ID of one before it, and the set of the IDs.
-#[derive(Drop)]
+#[derive(Clone, Copy)]
 struct Found {
     absent: Verdict,
     alike: Verdict,
@@ -324,7 +324,7 @@ fn list_at(s: &[u8], ps: &[u16], chain: &[u16], at: usize, count: usize) -> Foun
 }
 
 // The verdict on what the base lists; where it finds no fault, the set of the states of each function listed.
-#[derive(Drop)]
+#[derive(Clone, Copy)]
 pub struct Lists {
     pub verdict: Verdict,
     pub states: [u64; 255],

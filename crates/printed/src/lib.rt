@@ -18,14 +18,14 @@ mod text;
 
 // Number 0 and how many bytes of text were written, or the refusal and length 0.
 #[repr(C)]
-#[derive(Drop)]
+#[derive(Clone, Copy)]
 pub struct Printed {
     pub number: u8,
     pub length: usize,
 }
 
 // What is written: a minus sign or none, so many places before the point, and the digits, the lowest first.
-#[derive(Drop)]
+#[derive(Clone, Copy)]
 pub struct Laid {
     pub below: bool,
     pub places: usize,

@@ -4,7 +4,7 @@ ghost use Rattle.std.specs.Float.Ieee.Nearest.{closest};
 ghost use Rattle.printed.specs.Steps.{round_halves, Splits, Rounds};
 
 // whole * 2^power before the point, and part behind it, in last digits.
-#[derive(Drop)]
+#[derive(Clone, Copy)]
 pub struct Number {
     pub whole: u64,
     pub power: u64,

@@ -18,7 +18,7 @@ use pool::{BASE_FIXED, FUNCTION_TYPE, TOO_LONG, Verdict, before_lists};
 
 // trigger[f] is the preferred trigger of function f, 0 where the pool lists none; bit s of states[f] says that f has state s.
 #[repr(C)]
-#[derive(Drop)]
+#[derive(Clone, Copy)]
 pub struct Profile {
     pub master: u64,
     pub mask: u64,
@@ -47,7 +47,7 @@ impl Profile {
     }
 }
 
-#[derive(Drop)]
+#[derive(Clone, Copy)]
 struct Tables {
     trigger: [u8; 256],
     states: [u64; 256],
@@ -120,7 +120,7 @@ pub fn blank_profile() -> Profile
 }
 
 // The verdict on any bytes at all, and what is kept of them: of a pool that the check refuses, nothing.
-#[derive(Drop)]
+#[derive(Clone, Copy)]
 pub struct Judged {
     pub verdict: Verdict,
     pub profile: Profile,

@@ -29,7 +29,7 @@ pub const FAILED: u8 = 3;
 
 // A step that is held, its TAN and its status.
 #[repr(C)]
-#[derive(Drop)]
+#[derive(Clone, Copy)]
 pub struct Taken {
     pub step: Step,
     pub tan: u8,
@@ -38,7 +38,7 @@ pub struct Taken {
 
 // ticks and distance are counted since the start. The first count of steps are held; records stand by slot. Unused cells are blank.
 #[repr(C)]
-#[derive(Drop)]
+#[derive(Clone, Copy)]
 pub struct Recording {
     pub ticks: u32,
     pub distance: u32,
@@ -48,14 +48,14 @@ pub struct Recording {
 }
 
 // The error of E.5, and the recording after the message.
-#[derive(Drop)]
+#[derive(Clone, Copy)]
 pub struct Heard {
     pub error: u8,
     pub recording: Recording,
 }
 
 // The steps that stay: the first count of steps.
-#[derive(Drop)]
+#[derive(Clone, Copy)]
 struct Kept {
     count: usize,
     steps: [Step; MOST_STEPS],

@@ -9,7 +9,7 @@ use octets::numbers::{DONE, POOL_REFUSED, TOO_SHORT};
 
 // The number that the call gives; with 6 the code of D.9 and the object that it is about, else 0 and 0.
 #[repr(C)]
-#[derive(Drop)]
+#[derive(Clone, Copy)]
 pub struct Rewritten {
     pub number: u8,
     pub code: u8,

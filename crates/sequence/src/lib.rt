@@ -21,7 +21,7 @@ pub const SECOND_EDITION: u32 = 2;
 
 // distance is 0 where the mark is in ticks; any other number: in millimetres.
 #[repr(C)]
-#[derive(Drop)]
+#[derive(Clone, Copy)]
 pub struct Step {
     pub slot: u8,
     pub function: u8,
@@ -34,7 +34,7 @@ pub struct Step {
 // The first count of steps are used, in the order of their start, or of their blocks; records stand by slot. Unused cells are blank. edition is 1 or 2, and 0
 // where there is no step.
 #[repr(C)]
-#[derive(Drop)]
+#[derive(Clone, Copy)]
 pub struct Sequence {
     pub count: usize,
     pub edition: u32,

@@ -14,7 +14,7 @@ use octets::numbers::{DONE, WRONG_VALUE};
 
 // Number 0, the shown value, and exact 1 where it is the exact product, else 0; or number 4, value 0 and exact 0.
 #[repr(C)]
-#[derive(Drop)]
+#[derive(Clone, Copy)]
 pub struct Shown {
     pub number: u8,
     pub exact: u8,
@@ -22,7 +22,7 @@ pub struct Shown {
 }
 
 // The exact product as a fraction: size * 2^power / 2^149, and below zero where the sum is.
-#[derive(Drop)]
+#[derive(Clone, Copy)]
 pub struct Fraction {
     pub below: bool,
     pub size: u64,

@@ -19,7 +19,7 @@ pub const CONTENT_BYTES: usize = 508;
 
 // What blocks say: number is 0, 16 or 17, and the sequence is blank where it is not 0.
 #[repr(C)]
-#[derive(Drop)]
+#[derive(Clone, Copy)]
 pub struct Loaded {
     pub number: u8,
     pub sequence: Sequence,

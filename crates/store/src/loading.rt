@@ -28,14 +28,14 @@ const MOST_TICKS: u32 = 35999;
 const MOST_DISTANCE: u32 = 2359194465;
 
 // The client records, each in its slot, where every one of them can be taken.
-#[derive(Drop)]
+#[derive(Clone, Copy)]
 struct Clients {
     right: bool,
     records: [ClientRecord; SLOTS],
 }
 
 // The steps, where every one of them can be taken; slots are the slots of which there is one, as bits.
-#[derive(Drop)]
+#[derive(Clone, Copy)]
 struct Steps {
     right: bool,
     slots: u64,

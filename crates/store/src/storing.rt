@@ -13,7 +13,7 @@ use octets::{put_byte, put_u32, put_u64};
 use sequence::{MOST_STEPS, Sequence, Step};
 
 // The slots of which there is a client record, lowest first.
-#[derive(Drop)]
+#[derive(Clone, Copy)]
 struct Used {
     count: usize,
     slots: [u8; SLOTS],

@@ -7,7 +7,7 @@ ghost use Rattle.objects.specs.Objects.{next_at, found_at};
 
 use objects::Found;
 
-#[derive(Drop)]
+#[derive(Clone, Copy)]
 pub struct Window<'a> {
     pub pool: &'a [u8],
     pub place: usize,

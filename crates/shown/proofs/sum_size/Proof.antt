@@ -24,10 +24,10 @@ itself : (z : ℤ) → negative z ≡ false → z ≡ pos (nat_abs z)
 itself (pos n) e = refl
 itself (negsuc n) e = absurd (true≢false e)
 
-sum_of_requires : tie.Need-sum-of-requires
+sum_of_requires : tie.Need-sum_of-sum-requires
 sum_of_requires c κs = search rules
 
-module _ (c : tie.After-sum-of) where
+module _ (c : tie.After-sum_of-sum) where
   abbrev sum : ℤ
   sum = sum_of c.before.args.value c.before.args.offset
 
@@ -41,31 +41,31 @@ module _ (c : tie.After-sum-of) where
   unsigned : Fits w64 (nat_abs sum)
   unsigned = record { fits = lt_trans few (lit< tt) }
 
-  given_back : to_z w64 (of_z w64 c.sum_of.result) ≡ sum
-  given_back = is_sum c.before.ranges.value c.before.ranges.offset c.sum_of.ensures
+  given_back : to_z w64 (of_z w64 c.sum_of-sum.result) ≡ sum
+  given_back = is_sum c.before.ranges.value c.before.ranges.offset c.sum_of-sum.ensures
 
-  sign : lt_z (to_z w64 (of_z w64 c.sum_of.result)) (pos 0) ≡ negative sum
-  sign = sum_below c.before.ranges.value c.before.ranges.offset c.sum_of.ensures
+  sign : lt_z (to_z w64 (of_z w64 c.sum_of-sum.result)) (pos 0) ≡ negative sum
+  sign = sum_below c.before.ranges.value c.before.ranges.offset c.sum_of-sum.ensures
 
-turned : (c : tie.Then1) → pos 0 -ℤ to_z w64 (of_z w64 c.before.sum_of.result) ≡ pos (nat_abs (sum c.before))
-turned c = rw (given_back c.before) (taken_from_zero (sum c.before) (sym (sign c.before) ∙ c.if1.true))
+turned : (c : tie.Then-sum-lt0) → pos 0 -ℤ to_z w64 (of_z w64 c.before.sum_of-sum.result) ≡ pos (nat_abs (sum c.before))
+turned c = rw (given_back c.before) (taken_from_zero (sum c.before) (sym (sign c.before) ∙ c.if-sum-lt0.true))
 
-kept : (c : tie.Else1) → to_z w64 (of_z w64 c.before.sum_of.result) ≡ pos (nat_abs (sum c.before))
-kept c = given_back c.before ∙ itself (sum c.before) (sym (sign c.before) ∙ c.if1.false)
+kept : (c : tie.Else-sum-lt0) → to_z w64 (of_z w64 c.before.sum_of-sum.result) ≡ pos (nat_abs (sum c.before))
+kept c = given_back c.before ∙ itself (sum c.before) (sym (sign c.before) ∙ c.if-sum-lt0.false)
 
-sub_result : tie.Need-overflow-sub-result
+sub_result : tie.Need-overflow_sub-result
 sub_result c = rw (turned c) (signed c.before)
 
-cast_result : tie.Need-overflow-cast-result
+cast_result : tie.Need-overflow_cast-result
 cast_result c = rw (turned c, to_z-of_z (signed c.before)) (tt, unsigned c.before)
 
-cast_result_2 : tie.Need-overflow-cast-result-2
+cast_result_2 : tie.Need-overflow_cast-result-else-sum-lt0
 cast_result_2 c = rw (kept c) (tt, unsigned c.before)
 
-returns : tie.Need-returns
+returns : tie.Need-returns-then-sum-lt0
 returns c = rw (turned c, to_z-of_z (signed c.before))
 
-returns_2 : tie.Need-returns-2
+returns_2 : tie.Need-returns-else-sum-lt0
 returns_2 c = ap nat_abs (given_back c.before)
 
 pub sum_size_spec : {M : Type 1} → statement M

@@ -14,7 +14,7 @@ use Rattle.message.proofs.Laid.{filled, past_cells, short, first_belongs}
 use Rattle.message.proofs.forms.lay_bytes.Statement.{statement}
 use Rattle.message.proofs.forms.lay_bytes.Tie as tie
 
-module _ (c : tie.After-first-of2) where
+module _ (c : tie.After-first_of-first) where
   abbrev entry : tie.Start
   entry = c.before.before.before.before.before.before
 
@@ -25,35 +25,35 @@ module _ (c : tie.After-first-of2) where
   out = entry.args.out.now
 
   abbrev first : List ℕ
-  first = c.first_of2.result.now
+  first = c.first_of-first.result.now
 
   abbrev given : List ℕ
   given = take entry.args.form.first entry.args.form.bytes
 
   first_is : first ≡ take entry.args.form.length given
-  first_is = c.first_of2.ensures ∙ ap (take entry.args.form.length) c.before.first_of.ensures
+  first_is = c.first_of-first.ensures ∙ ap (take entry.args.form.length) c.before.first_of.ensures
 
   fits : length first ≤ entry.args.form.length
   fits = short entry.args.form.length given first first_is
 
 -- the first bytes are laid
-copied : (c : tie.After-put-bytes) → let p = c.before.before in c.put_bytes.new.0 ≡ row_of (length (first p)) (octet p) ++ drop (length (first p)) (out p)
+copied : (c : tie.After-put_bytes) → let p = c.before.before in c.put_bytes.new.out ≡ row_of (length (first p)) (octet p) ++ drop (length (first p)) (out p)
 copied c =
     let p = c.before.before in
     let a = (entry p).args in
     let e = first_belongs a.form a.label a.pool.now a.form.length (first p) (first_is p) in
     c.put_bytes.ensures ∙ filled (out p) (octet p) 0 (first p) (omega (arith, fits p, (entry p).requires)) refl e ∙ rw (zero-add (length (first p)))
 
-put_bytes_requires : tie.Need-put-bytes-requires
+put_bytes_requires : tie.Need-put_bytes-requires
 put_bytes_requires c κs = omega (arith, fits c.before)
 
-lay_rest_requires : tie.Need-lay-rest-requires
+lay_rest_requires : tie.Need-lay_rest-requires
 lay_rest_requires c κs =
     let done = c.before.before.before.before in
     let p = done.before.before in
     (fits p, (omega (arith, (entry p).requires), ap (take (length (first p))) (copied done) ∙ take_at (row_of (length (first p)) (octet p)) (drop (length (first p)) (out p)) (length (first p)) (length_cells (length (first p)) (octet p))))
 
-returns : tie.Need-returns
+returns : tie.Need-returns-then-first-end
 returns c =
     let last = c.before.before in
     let done = last.before.before.before.before.before in
@@ -62,7 +62,7 @@ returns c =
     last.lay_rest.ensures
     ∙ ap (λ (past : List ℕ). row_of end (octet p) ++ past) (ap (drop end) (copied done) ∙ past_cells (out p) (octet p) (length (first p)) end (fits p))
 
-returns_2 : tie.Need-returns-2
+returns_2 : tie.Need-returns-else-first-end
 returns_2 c =
     let done = c.before.before.before in
     let p = done.before.before in

@@ -1,0 +1,6 @@
+-- `message::forms::pooled` meets its contract: the length is what its callee ensures.
+use borrow.Author.Rules.{rules}
+use Rattle.message.proofs.forms.pooled.Goals as goal
+
+pub returns : goal.returns
+returns c = rw c.at_most_a_pool.ensures
