@@ -1,6 +1,6 @@
 -- 01, "The pool": the ranges and the characters at their edges, as codes that pools get: one accepted pool, and others that differ from it in some
 -- bytes. The function `edges` of the crate ensures these statements.
-use Rattle.std.specs.Prelude.{ℕ, zero, suc, ◌+◌, ◌/◌, ◌%◌, ◌<◌, ◌≡◌, Bool, false, ◌&&◌, ◌||◌, List, [], ◌∷◌, ◌++◌, map, ltb, eqb, length, set, replicate}
+use Rattle.std.specs.Prelude.{ℕ, zero, suc, ◌/◌, ◌%◌, ◌<◌, ◌≡◌, Bool, false, ◌&&◌, ◌||◌, List, [], ◌∷◌, ◌++◌, map, ltb, eqb, length, set, replicate}
 use Rattle.std.proofs.lemmas.List.Edits.{sets}
 use Rattle.octets.specs.Pick.{pick}
 use Rattle.pool.specs.{Verdicts.verdict, Pool.verdict_of, Cases.base, Cases.function, Codes.state, Codes.listing}

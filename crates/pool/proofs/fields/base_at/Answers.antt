@@ -1,5 +1,4 @@
 -- `pool::fields::base_at` meets its contract: its result is what the definition makes of what the callees return.
-use borrow.Author.Rules.{rules}
 use Rattle.pool.proofs.fields.base_at.Goals as goal
 
 pub returns : goal.returns

@@ -1,6 +1,5 @@
 -- `pool::fields::configuration_label` meets its contract: N and M are the base's.
 use mathlib.Core.Path.{◌∙◌}
-use borrow.Author.Rules.{rules}
 use Rattle.pool.proofs.fields.configuration_label.Goals as goal
 
 pub returns : goal.returns

@@ -1,5 +1,4 @@
 -- `pool::fields::function_in` meets its contract: its result is what the definition makes of what the callees return.
-use borrow.Author.Rules.{rules}
 use Rattle.pool.proofs.fields.function_in.Goals as goal
 
 pub returns : goal.returns

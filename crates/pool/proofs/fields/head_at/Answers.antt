@@ -1,5 +1,4 @@
 -- `pool::fields::head_at` meets its contract: the tests that led to a return say which case of the definition holds.
-use borrow.Author.Rules.{rules}
 use borrow.Author.Tests.{eq-eqb, ne_eqb}
 use Rattle.octets.specs.Pick.{pick}
 use Rattle.pool.specs.Fields.{head_at}

@@ -1,6 +1,5 @@
 -- `pool::fields::version_label` meets its contract: N is the base's.
 use mathlib.Core.Path.{◌∙◌}
-use borrow.Author.Rules.{rules}
 use Rattle.pool.proofs.fields.version_label.Goals as goal
 
 pub returns : goal.returns

@@ -1,5 +1,4 @@
 -- `pool::ranges::head_right` meets its contract: its result is what the definition makes of what the callees return.
-use borrow.Author.Rules.{rules}
 use Rattle.pool.proofs.ranges.head_right.Goals as goal
 
 pub returns-in-Base : goal.returns-in-Base

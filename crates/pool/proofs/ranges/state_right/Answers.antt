@@ -1,5 +1,4 @@
 -- `pool::ranges::state_right` meets its contract: its result is what the definition makes of what the callees return.
-use borrow.Author.Rules.{rules}
 use Rattle.pool.proofs.ranges.state_right.Goals as goal
 
 pub returns : goal.returns

@@ -1,6 +1,5 @@
 -- `pool::ranges::value_right` meets its contract: the attribute says which of the three cases holds.
 use mathlib.Core.Bool.{or-false}
-use borrow.Author.Rules.{rules}
 use borrow.Author.Tests.{ne_eqb}
 use Rattle.pool.proofs.ranges.value_right.Goals as goal
 

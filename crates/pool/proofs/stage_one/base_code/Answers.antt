@@ -1,6 +1,5 @@
 -- `pool::stage_one::base_code` meets its contract: the tests that led to a return say which faults the base has not, and which it has.
 use mathlib.Core.Path.{refl}
-use borrow.Author.Rules.{rules}
 use borrow.Author.Tests.{lt-ltb, le-ltb}
 use Rattle.octets.specs.Pick.{pick}
 use Rattle.pool.specs.Fields.{base_at}

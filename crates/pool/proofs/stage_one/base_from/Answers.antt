@@ -1,5 +1,4 @@
 -- `pool::stage_one::base_from` meets its contract: the test says which case of the definition holds.
-use borrow.Author.Rules.{rules}
 use Rattle.octets.specs.Pick.{pick}
 use Rattle.pool.specs.StageTwo.{is_object}
 use Rattle.pool.proofs.stage_one.base_from.Goals as goal

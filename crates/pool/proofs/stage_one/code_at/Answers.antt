@@ -1,7 +1,6 @@
 -- `pool::stage_one::code_at` meets its contract: the object's type says which function gives its code.
 use Prim.Native.Nat.{◌<◌}
 use native.Mathlib.Omega.{arith}
-use borrow.Author.Rules.{rules}
 use borrow.Author.Tests.{lt-ltb, le-ltb}
 use Rattle.octets.specs.Pick.{pick}
 use Rattle.pool.specs.StageOne.{code_of, faults_at}

@@ -1,5 +1,4 @@
 -- `pool::stage_one::name_at` meets its contract: the tests that led to a return say which case of the definition holds.
-use borrow.Author.Rules.{rules}
 use borrow.Author.Tests.{lt-ltb, le-ltb}
 use Rattle.octets.specs.Pick.{pick}
 use Rattle.pool.specs.StageOne.{name_at}

@@ -1,10 +1,8 @@
 -- `pool::stage_one::stage_one` meets its contract. The loop's invariant is `Turn` of Base.antt: it holds after an object without a fault, and a state
-use Prim.Native.Nat.{◌-◌}
 use native.Mathlib.Omega.{arith}
 use mathlib.Core.Path.{◌≡◌, refl, sym, ap, subst, ◌∙◌}
 use mathlib.Core.List.{append-nil}
 use lib.Dec.{eqb}
-use lib.ListN.{length}
 use borrow.Author.Tests.{eqb-true}
 use Rattle.octets.proofs.Tests.{both}
 use Rattle.pool.specs.Fields.{kind_at, function_type, state_type}
@@ -14,7 +12,7 @@ use Rattle.pool.specs.Search.Index.{Within}
 use Rattle.pool.proofs.Walk.{size_least, places_end}
 use Rattle.pool.proofs.Faults.{walk_end, walk_here}
 use Rattle.pool.proofs.Within.{within_places}
-use Rattle.pool.proofs.Base.{no_base, state_size, function_size, base_start, base_end, Turn, turn_next}
+use Rattle.pool.proofs.Base.{no_base, state_size, function_size, base_start, base_end, turn_next}
 use Rattle.pool.proofs.stage_one.stage_one.Goals as goal
 
 pub loop-at-init : goal.loop-at-init

@@ -1,13 +1,9 @@
 -- `pool::stage_two::absent_fault` meets its contract. The loop's invariant: the first absent number of the list is the first from here.
-use Prim.Native.Nat.{◌-◌}
 use native.Mathlib.Omega.{arith}
 use mathlib.Core.Path.{◌≡◌, refl, sym, ◌∙◌}
-use lib.ListN.{drop}
 use borrow.Author.Tests.{le-leb, lt-leb}
-use borrow.Author.Rules.{rules}
 use Rattle.octets.specs.Pick.{pick}
-use Rattle.pool.specs.Verdicts.{verdict, fine, first_fault}
-use Rattle.pool.specs.Fields.{numbers_at}
+use Rattle.pool.specs.Verdicts.{verdict, fine}
 use Rattle.pool.specs.StageTwo.{absent_fault}
 use Rattle.pool.proofs.Lists.{list_end, list_here, list_next}
 use Rattle.pool.proofs.stage_two.absent_fault.Goals as goal

@@ -1,16 +1,11 @@
 -- `pool::stage_two::absent_fault` meets its contract. The loop's invariant: the first absent number of the list is the first from here.
 -- The measure is what is left of the list.
 use Prim.Native.Nat.{◌-◌}
-use native.Mathlib.Omega.{arith}
-use mathlib.Core.Path.{◌≡◌, refl, sym, ◌∙◌}
+use mathlib.Core.Path.{◌≡◌}
 use lib.ListN.{drop}
-use borrow.Author.Tests.{le-leb, lt-leb}
-use borrow.Author.Rules.{rules}
-use Rattle.octets.specs.Pick.{pick}
-use Rattle.pool.specs.Verdicts.{verdict, fine, first_fault}
+use Rattle.pool.specs.Verdicts.{first_fault}
 use Rattle.pool.specs.Fields.{numbers_at}
 use Rattle.pool.specs.StageTwo.{absent_fault}
-use Rattle.pool.proofs.Lists.{list_end, list_here, list_next}
 use Rattle.pool.proofs.stage_two.absent_fault.Given as goal
 
 abbrev pub invariant-loop-k : goal.invariant-loop-k

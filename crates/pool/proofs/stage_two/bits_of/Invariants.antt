@@ -1,17 +1,9 @@
 -- `pool::stage_two::bits_of` meets its contract. The loop's invariant: the bits are the set of the IDs from here on.
 -- The measure is the number of IDs left.
-use Prim.Native.Nat.{ℕ, ◌+◌, ◌-◌, ◌≤◌, ◌<◌}
-use native.Mathlib.Omega.{arith}
-use mathlib.Core.Path.{◌≡◌, sym, ◌∙◌}
-use mathlib.Core.List.{List}
-use lib.ListN.{length, get_or, take, drop}
-use lib.Dec.{ltb}
-use lib.Seq.{length-take-le, get_or-take}
-use borrow.Author.Rules.{rules}
-use borrow.Author.Tests.{lt-ltb, le-ltb}
-use Rattle.octets.specs.Pick.{pick}
-use Rattle.octets.specs.Bits.{with_bit, bits_of}
-use Rattle.octets.proofs.BitLaws.{bits_end, bits_next}
+use Prim.Native.Nat.{◌≤◌}
+use mathlib.Core.Path.{◌≡◌}
+use lib.ListN.{length, take, drop}
+use Rattle.octets.specs.Bits.{bits_of}
 use Rattle.pool.proofs.stage_two.bits_of.Given as goal
 
 abbrev pub invariant-loop-k : goal.invariant-loop-k

@@ -1,10 +1,9 @@
 -- `pool::stage_two::chain_of` meets its contract. The loop's invariant: the chains of the objects from place k on are built.
-use Prim.Native.Nat.{ℕ, ◌+◌, ◌-◌, ◌≤◌}
+use Prim.Native.Nat.{ℕ, ◌+◌, ◌-◌}
 use native.Mathlib.Omega.{arith}
 use mathlib.Core.Path.{◌≡◌, sym, subst, ap, ◌∙◌}
 use lib.ListN.{length, length-set}
-use borrow.Author.Rules.{rules}
-use Rattle.pool.specs.Search.Index.{Heads, Links, Unused}
+use Rattle.pool.specs.Search.Index.{Heads, Links}
 use Rattle.pool.proofs.Index.{heads_none, heads_grown, links_grown, unused_none, unused_grown}
 use Rattle.pool.proofs.stage_two.chain_of.Goals as goal
 

@@ -1,12 +1,9 @@
 -- `pool::stage_two::chain_of` meets its contract. The loop's invariant: the chains of the objects from place k on are built.
 -- The measure is the number of places left.
-use Prim.Native.Nat.{ℕ, ◌+◌, ◌-◌, ◌≤◌}
-use native.Mathlib.Omega.{arith}
-use mathlib.Core.Path.{◌≡◌, sym, subst, ap, ◌∙◌}
-use lib.ListN.{length, length-set}
-use borrow.Author.Rules.{rules}
+use Prim.Native.Nat.{◌≤◌}
+use mathlib.Core.Path.{◌≡◌}
+use lib.ListN.{length}
 use Rattle.pool.specs.Search.Index.{Heads, Links, Unused}
-use Rattle.pool.proofs.Index.{heads_none, heads_grown, links_grown, unused_none, unused_grown}
 use Rattle.pool.proofs.stage_two.chain_of.Given as goal
 
 abbrev pub invariant-loop-k : goal.invariant-loop-k

@@ -1,12 +1,10 @@
 -- `pool::stage_two::find_object` meets its contract. The loop's invariant: the first such object is the first from here, and here is in its
-use Prim.Native.Nat.{◌+◌, ◌-◌, ◌%◌, ◌<◌}
+use Prim.Native.Nat.{◌+◌, ◌%◌}
 use native.Mathlib.Omega.{arith}
 use mathlib.Core.Path.{◌≡◌, sym, ◌∙◌}
 use mathlib.Core.Bool.{true, false}
-use lib.ListN.{length, get_or, drop}
-use borrow.Author.Rules.{rules}
-use Rattle.pool.specs.Search.Index.{in_chain}
-use Rattle.pool.specs.StageTwo.{find, is_object, object_of}
+use lib.ListN.{length, get_or}
+use Rattle.pool.specs.StageTwo.{is_object, object_of}
 use Rattle.pool.proofs.Lists.{find_end, find_here}
 use Rattle.pool.proofs.Index.{chain_start, chain_later, chain_next}
 use Rattle.pool.proofs.stage_two.find_object.Goals as goal

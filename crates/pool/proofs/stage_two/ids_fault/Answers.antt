@@ -3,7 +3,6 @@ use native.Mathlib.Omega.{arith}
 use mathlib.Core.Path.{sym, ap, ◌∙◌}
 use mathlib.Core.List.{[], map}
 use lib.ListN.{length, length-map}
-use borrow.Author.Rules.{rules}
 use Rattle.pool.specs.Verdicts.{verdict}
 use Rattle.pool.specs.Fields.{numbers_at}
 use Rattle.pool.specs.StageTwo.{id_of, first_repeat, ids_fault}

@@ -1,14 +1,11 @@
 -- `pool::stage_two::ids_of` meets its contract. The loop's invariant: the IDs of the numbers passed stand at the front.
 -- The measure is what is left of the list.
 use Prim.Native.Nat.{◌-◌, ◌≤◌}
-use native.Mathlib.Omega.{arith}
-use mathlib.Core.Path.{◌≡◌, refl, sym, ◌∙◌}
+use mathlib.Core.Path.{◌≡◌}
 use mathlib.Core.List.{map}
-use lib.ListN.{length, get_or, take, drop, replicate, length-set}
-use borrow.Author.Rules.{rules}
+use lib.ListN.{length, take, drop, replicate}
 use Rattle.pool.specs.Fields.{numbers_at}
 use Rattle.pool.specs.StageTwo.{id_of}
-use Rattle.pool.proofs.Lists.{length_numbers, number_in, gather, gathered, blank_after}
 use Rattle.pool.proofs.stage_two.ids_of.Given as goal
 
 abbrev pub invariant-loop-k : goal.invariant-loop-k

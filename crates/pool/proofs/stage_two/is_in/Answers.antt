@@ -1,11 +1,6 @@
 -- `pool::stage_two::is_in` meets its contract. The loop's invariant: the byte is in the list if it is in what is left of it.
-use Prim.Native.Nat.{◌-◌}
 use native.Mathlib.Omega.{arith}
-use mathlib.Core.Path.{◌≡◌, refl, sym, ◌∙◌}
-use lib.ListN.{length, drop}
-use borrow.Author.Rules.{rules}
-use borrow.Author.Tests.{eq-eqb, ne_eqb}
-use Rattle.pool.specs.StageTwo.{is_in}
+use mathlib.Core.Path.{sym, ◌∙◌}
 use Rattle.pool.proofs.Lists.{in_end, in_here, in_next}
 use Rattle.pool.proofs.stage_two.is_in.Goals as goal
 

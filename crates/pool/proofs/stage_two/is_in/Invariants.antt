@@ -1,13 +1,9 @@
 -- `pool::stage_two::is_in` meets its contract. The loop's invariant: the byte is in the list if it is in what is left of it.
 -- The measure is what is left of the list.
 use Prim.Native.Nat.{◌-◌}
-use native.Mathlib.Omega.{arith}
-use mathlib.Core.Path.{◌≡◌, refl, sym, ◌∙◌}
+use mathlib.Core.Path.{◌≡◌}
 use lib.ListN.{length, drop}
-use borrow.Author.Rules.{rules}
-use borrow.Author.Tests.{eq-eqb, ne_eqb}
 use Rattle.pool.specs.StageTwo.{is_in}
-use Rattle.pool.proofs.Lists.{in_end, in_here, in_next}
 use Rattle.pool.proofs.stage_two.is_in.Given as goal
 
 abbrev pub invariant-loop-k : goal.invariant-loop-k

@@ -1,15 +1,8 @@
 -- `pool::stage_two::look` meets its contract. The loop's invariant: of the states from here on none is absent and no two are alike, and the set is
 -- theirs. The measure is the number of states left.
-use Prim.Native.Nat.{ℕ, ◌+◌, ◌-◌, ◌≤◌, ◌<◌}
-use native.Mathlib.Omega.{arith}
-use mathlib.Core.Path.{◌≡◌, refl, sym, ap, subst, ◌∙◌}
-use mathlib.Core.Bool.{true≢false}
-use lib.ListN.{length, get_or}
-use borrow.Author.Rules.{rules}
-use Rattle.pool.specs.Fields.{state_type, id_at, numbers_at}
-use Rattle.pool.specs.StageTwo.{object_of}
-use Rattle.pool.proofs.Lists.{length_numbers, number_in}
-use Rattle.pool.proofs.Looks.{RightFrom, right_end, right_next, right_whole}
+use Prim.Native.Nat.{◌≤◌}
+use Rattle.pool.specs.Fields.{numbers_at}
+use Rattle.pool.proofs.Looks.{RightFrom}
 use Rattle.pool.proofs.stage_two.look.Given as goal
 
 abbrev pub invariant-loop-k : goal.invariant-loop-k

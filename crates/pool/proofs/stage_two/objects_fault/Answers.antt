@@ -1,7 +1,6 @@
 -- `pool::stage_two::objects_fault` meets its contract: the first verdict with a fault is the one returned.
 use mathlib.Core.Path.{ap, sym, ◌∙◌}
 use mathlib.Core.List.{map}
-use borrow.Author.Rules.{rules}
 use borrow.Author.Tests.{eq-eqb, ne_eqb, le-leb, lt-leb}
 use Rattle.octets.specs.Pick.{pick}
 use Rattle.pool.specs.declared.BaseHead.{BaseHead}

@@ -1,6 +1,5 @@
 -- `pool::stage_two::set_at` meets its contract: the IDs gathered are those of the list's states.
 use mathlib.Core.Path.{ap, ◌∙◌}
-use borrow.Author.Rules.{rules}
 use Rattle.octets.specs.Bits.{bits_of}
 use Rattle.pool.proofs.stage_two.set_at.Goals as goal
 

@@ -2,9 +2,7 @@
 use Prim.Native.Nat.{ℕ, ◌+◌, ◌-◌, ◌≤◌, ◌<◌}
 use native.Mathlib.Omega.{arith}
 use mathlib.Core.Path.{◌≡◌, refl, sym, ap, subst, ◌∙◌}
-use lib.ListN.{length, get_or, drop, replicate, length-set}
-use borrow.Author.Rules.{rules}
-use Rattle.pool.specs.Verdicts.{first_fault}
+use lib.ListN.{length, get_or, replicate, length-set}
 use Rattle.pool.specs.Fields.{function_type, numbers_at}
 use Rattle.pool.specs.StageTwo.{object_of, states_listed, states_absent, states_alike}
 use Rattle.pool.specs.Search.Look.{set_of, Sets}
@@ -40,8 +38,8 @@ loop-k-preserved c =
     let p : c.find_object-p.result ≡ object_of s ps function_type (get_or l k 0) =
     c.find_object-p.ensures.0 ∙ ap (object_of s ps function_type) (c.u16_at-n.ensures ∙ sym (number_in 2 s a.at a.count k (omega arith))) in
     let four : c.list_at-found.result.absent ≡ states_absent s ps 0x04 (get_or l k 0) = c.list_at-found.ensures.absent_value ∙ rw (c.state_count-states.ensures, p) in
-    let seven : c.list_at-found.result.alike ≡ states_alike s ps 0x07 (get_or l k 0) = c.list_at-found.ensures.alike_value.0 ∙ rw (c.state_count-states.ensures, p) in
-    let set : c.list_at-found.result.ids ≡ set_of s ps (states_listed s ps (get_or l k 0)) = c.list_at-found.ensures.alike_value.1 ∙ rw (c.state_count-states.ensures, p) in (
+    let seven : c.list_at-found.result.alike ≡ states_alike s ps 0x07 (get_or l k 0) = c.list_at-found.ensures.alike_value ∙ rw (c.state_count-states.ensures, p) in
+    let set : c.list_at-found.result.ids ≡ set_of s ps (states_listed s ps (get_or l k 0)) = c.list_at-found.ensures.ids_value ∙ rw (c.state_count-states.ensures, p) in (
       c.first-absent.ensures ∙ sym (fault_from (states_absent s ps 0x04) l k h ∙ rw (← four, ← e, ← i.invariant.0)),
       c.first-alike.ensures ∙ sym (fault_from (states_alike s ps 0x07) l k h ∙ rw (← seven, ← e, ← i.invariant.1)),
       omega arith,
