@@ -1,5 +1,5 @@
 -- `profile::says` meets its contract: what is kept of an accepted pool says what the lists say; of the sample it is computed.
-use mathlib.Core.Path.{◌≡◌, refl}
+use mathlib.Core.Path.{refl}
 use borrow.Author.Tests.{eq-eqb}
 use Rattle.octets.specs.Pick.{pick}
 use Rattle.octets.specs.Octets.{number_at}
@@ -13,8 +13,7 @@ use Rattle.pool.specs.Pool.{verdict_of}
 use Rattle.profile.specs.Profile.{trigger_in, states_in, table_of, kept_at, kept_of_pool, profile_of}
 use Rattle.profile.specs.Promises.{SaysOf, KeptOf}
 use Rattle.profile.proofs.Laws.{says}
-use Rattle.profile.proofs.says.Statement.{statement}
-use Rattle.profile.proofs.says.Tie as tie
+use Rattle.profile.proofs.says.Goals as goal
 
 says_of : SaysOf
 unfolding profile_of pick
@@ -24,5 +23,5 @@ kept_of : KeptOf
 unfolding number_at pick with_bit label_at first first_of head_at fixed_of rest_at places_f places_from numbers_at code_of faults_at name_at stage_one find is_object object_of id_of is_in first_repeat repeat_fault absent_fault ids_fault states_absent states_alike rules_of stage_two verdict_of trigger_in states_in bits_of table_of kept_at kept_of_pool profile_of
 kept_of = refl
 
-pub says_spec : {M : Type 1} → statement M
-says_spec = tie.close (tie.spec (λ c. (says_of, kept_of)))
+pub returns : goal.returns
+returns c = record { says_of = says_of; kept_of = kept_of }
