@@ -1,5 +1,5 @@
 -- Lists as the first cells of an array: looking for an element, keeping some of them, filling up with blank ones.
-use Rattle.std.specs.Prelude.{ℕ, zero, suc, ◌+◌, min, Bool, true, false, ◌||◌, cond, List, [], ◌∷◌}
+use Rattle.std.specs.Prelude.{ℕ, zero, suc, ◌+◌, min, Bool, false, ◌||◌, cond, List, [], ◌∷◌}
 
 -- some element passes the test
 abbrev pub some : {X : Type 0} → (X → Bool) → List X → Bool
