@@ -5,7 +5,6 @@ use Prim.Native.Nat.{ℕ, ◌-◌, ◌≤◌}
 use native.Mathlib.Nat.{le_refl}
 use lib.ListN.{length, drop, length-drop}
 use lib.Seq.{take_all}
-use borrow.Author.Rules.{rules}
 use Rattle.message.proofs.pool_of.Goals as goal
 
 none_left : (s : List ℕ) → length s ≡ 0 → s ≡ drop 1 s

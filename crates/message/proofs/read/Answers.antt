@@ -1,7 +1,6 @@
 -- `message::read` meets its contract: what its callees ensure, and the test, say which case of the definition holds.
 use Rattle.octets.specs.Pick.{pick}
 use Rattle.message.specs.Messages.{read_of}
-use borrow.Author.Rules.{rules}
 use Rattle.message.proofs.read.Goals as goal
 
 pub returns-then-form-bytes : goal.returns-then-form-bytes

@@ -1,5 +1,4 @@
 -- `message::write_transfer` meets its contract: the form is the transfer's.
-use borrow.Author.Rules.{rules}
 use Rattle.message.proofs.write_transfer.Goals as goal
 
 pub returns : goal.returns

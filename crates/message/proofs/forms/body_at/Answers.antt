@@ -1,5 +1,4 @@
 -- `message::forms::body_at` meets its contract: the tests say which case holds.
-use borrow.Author.Rules.{rules}
 use borrow.Author.Tests.{eq-eqb, ne_eqb}
 use Rattle.octets.specs.Pick.{pick}
 use Rattle.message.proofs.forms.body_at.Goals as goal

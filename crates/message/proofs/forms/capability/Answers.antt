@@ -1,6 +1,5 @@
 -- `message::forms::capability` meets its contract: bytes 5 and 6 are the number's.
 use Rattle.octets.specs.Octets as octets
-use borrow.Author.Rules.{rules}
 use Rattle.message.proofs.forms.capability.Goals as goal
 
 pub returns : goal.returns

@@ -2,7 +2,6 @@
 use mathlib.Core.Path.{sym}
 use native.Mathlib.Omega.{arith}
 use lib.Seq.{take_all, length-take-le}
-use borrow.Author.Rules.{rules}
 use Rattle.message.proofs.forms.first_of.Goals as goal
 
 pub returns-then-bytes-n : goal.returns-then-bytes-n

@@ -1,7 +1,6 @@
 -- `message::forms::form_of` meets its contract: the arm says which message it is.
 use mathlib.Core.Path.{◌∙◌}
 use Rattle.octets.specs.Octets as octets
-use borrow.Author.Rules.{rules}
 use Rattle.message.proofs.forms.form_of.Goals as goal
 
 pub returns-in-Nothing : goal.returns-in-Nothing

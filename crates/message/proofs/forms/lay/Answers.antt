@@ -1,6 +1,5 @@
 -- `message::forms::lay` meets its contract: the tests say which number is given, and where it is 0 the bytes are laid.
 use lib.ListN.{length}
-use borrow.Author.Rules.{rules}
 use borrow.Author.Tests.{lt-ltb, le-ltb, not-true, not-false}
 use Rattle.octets.specs.Pick.{pick}
 use Rattle.message.specs.Messages.{octet_of, written_as, left_as}

@@ -47,7 +47,7 @@ module _ (c : tie.After-first_of-body invariant_loop decreases_loop) where
   body_is = c.first_of-body.ensures ∙ ap (take left) c.before.body_at.ensures
 
   fits : next ≤ entry.args.form.length
-  fits = omega (arith, short left given body body_is, entry.pre.0)
+  fits = omega (arith, short left given body body_is, entry.requires.0)
 
 -- the bytes up to the end of the body are laid
 copied : (c : tie.After-put_bytes invariant_loop decreases_loop) → let p = c.before.before in c.put_bytes.new.out ≡ row_of (next p) (octet p) ++ drop (next p) (out p)

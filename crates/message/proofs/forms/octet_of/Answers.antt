@@ -2,7 +2,6 @@
 use borrow.Author.Tests.{lt-ltb, le-ltb}
 use Rattle.octets.specs.Pick.{pick}
 use Rattle.message.specs.Messages.{octet_of}
-use borrow.Author.Rules.{rules}
 use Rattle.message.proofs.forms.octet_of.Goals as goal
 
 pub returns-then-i-first : goal.returns-then-i-first

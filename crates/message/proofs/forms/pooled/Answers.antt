@@ -1,5 +1,4 @@
 -- `message::forms::pooled` meets its contract: the length is what its callee ensures.
-use borrow.Author.Rules.{rules}
 use Rattle.message.proofs.forms.pooled.Goals as goal
 
 pub returns : goal.returns

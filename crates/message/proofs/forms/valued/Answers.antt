@@ -1,6 +1,5 @@
 -- `message::forms::valued` meets its contract: the last bytes are the number's.
 use Rattle.octets.specs.Octets as octets
-use borrow.Author.Rules.{rules}
 use Rattle.message.proofs.forms.valued.Goals as goal
 
 pub returns : goal.returns

@@ -5,7 +5,6 @@ use Rattle.octets.specs.Pick.{pick}
 use Rattle.message.specs.Layout.{master_rows, from_master}
 use Rattle.message.specs.declared.Message.TheVariants.{Nothing}
 use Rattle.message.proofs.Rows.{no_row}
-use borrow.Author.Rules.{rules}
 use Rattle.message.proofs.layout.from_master.Goals as goal
 
 pub returns-in-1 : goal.returns-in-1

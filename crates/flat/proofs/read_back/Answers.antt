@@ -25,8 +25,7 @@ use Rattle.message.proofs.Back.{done, comes_back}
 use Rattle.flat.specs.declared.Flat.{Flat}
 use Rattle.flat.specs.Flat.{kind_of, flat_of, stated, execution_from, reply_from, receipt_from, kind_rows, message_from, reading_of}
 use Rattle.flat.specs.ReadBack.{sender_of, plain, Fits, sent}
-use Rattle.flat.proofs.read_back.Statement.{statement}
-use Rattle.flat.proofs.read_back.Tie as tie
+use Rattle.flat.proofs.read_back.Goals as goal
 
 -- ---- the row of a table that a kind has
 
@@ -139,7 +138,7 @@ back f out fits e =
     rw (comes_back.message (sender_of f.kind) (message_from f) f.label [] out g.side e)
     (ap (λ (x : Flat). record { number = 0; message = x }) g.again)
 
-returns : tie.Need-returns
+pub returns : goal.returns
 unfolding pick octets.bytes_of octet_of written_as left_as message_from reading_of
 returns c =
     record {
@@ -151,6 +150,3 @@ returns c =
       kind = λ pool out e. rw (comes_back.message 0 Transfer blank pool out refl e);
       pool = λ pool out e. comes_back.pool blank pool out e;
     }
-
-pub read_back_spec : {M : Type 1} → statement M
-read_back_spec = tie.close (tie.spec returns)

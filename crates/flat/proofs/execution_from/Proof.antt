@@ -1,9 +1,0 @@
--- `flat::execution_from` meets its contract: the status is what its callee ensures.
-use Rattle.flat.proofs.execution_from.Statement.{statement}
-use Rattle.flat.proofs.execution_from.Tie as tie
-
-pub execution_from_spec : {M : Type 1} → statement M
-execution_from_spec =
-    tie.close
-    (tie.spec
-    (λ c κs. tt) (λ c. rw c.status_from.ensures))

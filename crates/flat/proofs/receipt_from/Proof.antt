@@ -1,9 +1,0 @@
--- `flat::receipt_from` meets its contract: the status is what its callee ensures.
-use Rattle.flat.proofs.receipt_from.Statement.{statement}
-use Rattle.flat.proofs.receipt_from.Tie as tie
-
-pub receipt_from_spec : {M : Type 1} → statement M
-receipt_from_spec =
-    tie.close
-    (tie.spec
-    (λ c κs. tt) (λ c. rw c.status_from.ensures))

@@ -1,9 +1,0 @@
--- `flat::receipt_step` meets its contract: the status is what its callee ensures.
-use Rattle.flat.proofs.receipt_step.Statement.{statement}
-use Rattle.flat.proofs.receipt_step.Tie as tie
-
-pub receipt_step_spec : {M : Type 1} → statement M
-receipt_step_spec =
-    tie.close
-    (tie.spec
-    (λ c κs. tt) (λ c. rw c.status_number.ensures))
