@@ -2,7 +2,7 @@
 -- `read_back` of the crate ensures these statements.
 use Rattle.std.specs.Prelude.{ℕ, ◌-◌, ◌<◌, ◌≡◌, Bool, false, ◌||◌, List, [], ◌∷◌, ◌++◌, eqb, length, take, drop, replicate}
 use Rattle.octets.specs.{Pick.pick, Label.blank, declared.label.Label.Label}
-use Rattle.message.specs.{Clauses.label_aB, Messages.written_of, Messages.written_over, declared.Capability.Capability, declared.Message.TheVariants.Transfer}
+use Rattle.message.specs.{Clauses.label_ab, Messages.written_of, Messages.written_over, declared.Capability.Capability, declared.Message.TheVariants.Transfer}
 use Rattle.flat.specs.{Flat.message_from, Flat.reading_of, declared.MessageStep.MessageStep, declared.Flat.Flat}
 
 -- ---- kinds are those of C.2 to E.8 in the order of the clauses, from 1
@@ -89,8 +89,8 @@ sent_transfer pool out = take (written_of Transfer blank pool (length out)).leng
 abbrev zeros : Capability
 zeros = record { version = 0; width = 0; height = 0; characters = 0; colour = 0; size = 0; font = 0; style = 0 }
 
-abbrev pub version_aB : Flat
-version_aB =
+abbrev pub version_ab : Flat
+version_ab =
     record {
       kind = 6;
       code = 0;
@@ -99,7 +99,7 @@ version_aB =
       memory = 0;
       capability = zeros;
       step = record { function = 0; state = 0; status = 0; error = 0; tan = 0; value = 0 };
-      label = label_aB;
+      label = label_ab;
     }
 
 abbrev pub command240 : Flat
@@ -122,7 +122,7 @@ pub record ReadBack : Type 0 where
       (written_of (message_from f) f.label [] (length out)).number ≡ 0 →
       reading_of (sender_of f.kind) (sent f out) ≡ record { number = 0; message = plain f }
   -- such as these two, which have eight bytes
-  pub labelled : sent version_aB (replicate 8 0) ≡ 0x01 ∷ 0x00 ∷ 0x02 ∷ 0x41 ∷ 0x42 ∷ 0xFF ∷ 0xFF ∷ 0xFF ∷ []
+  pub labelled : sent version_ab (replicate 8 0) ≡ 0x01 ∷ 0x00 ∷ 0x02 ∷ 0x41 ∷ 0x42 ∷ 0xFF ∷ 0xFF ∷ 0xFF ∷ []
   pub commanded : sent command240 (replicate 8 0) ≡ 0x33 ∷ 0x05 ∷ 0x02 ∷ 0xFF ∷ 0xF0 ∷ 0x00 ∷ 0x00 ∷ 0x00 ∷ []
   -- a message with 0 in the fields that it lacks is read back itself
   pub same :

@@ -16,8 +16,8 @@ pub record BothWays (side : ℕ) (bytes : ℕ → List ℕ) (m : Message) (l : L
   pub done : written_of m l pool (length (bytes 0xFF)) ≡ record { number = 0; length = length (bytes 0xFF) }
   pub written : written_over m l pool (replicate (length (bytes 0xFF)) 0) ≡ bytes 0xFF
 
-abbrev pub label_aB : Label
-label_aB = record { length = 2; bytes = 0x41 ∷ 0x42 ∷ replicate 61 0 }
+abbrev pub label_ab : Label
+label_ab = record { length = 2; bytes = 0x41 ∷ 0x42 ∷ replicate 61 0 }
 
 abbrev pub longest : Label
 longest = record { length = 63; bytes = replicate 63 0x41 }
@@ -36,13 +36,13 @@ pub record Clauses : Type 0 where
   -- D.2
   pub d2 : BothWays 0 (λ r. 0x01 ∷ r ∷ r ∷ r ∷ r ∷ r ∷ r ∷ r ∷ []) VersionRequest blank []
   -- D.3 with the label AB, with the longest, and with an error
-  pub d3 : BothWays 1 (λ r. 0x01 ∷ 0x00 ∷ 0x02 ∷ 0x41 ∷ 0x42 ∷ r ∷ r ∷ r ∷ []) (VersionResponse 0x00) label_aB []
+  pub d3 : BothWays 1 (λ r. 0x01 ∷ 0x00 ∷ 0x02 ∷ 0x41 ∷ 0x42 ∷ r ∷ r ∷ r ∷ []) (VersionResponse 0x00) label_ab []
   pub d3_long : BothWays 1 (λ r. 0x01 ∷ 0x00 ∷ 0x3F ∷ replicate 63 0x41) (VersionResponse 0x00) longest []
   pub d3_error : BothWays 1 (λ r. 0x01 ∷ 0x01 ∷ 0x00 ∷ r ∷ r ∷ r ∷ r ∷ r ∷ []) (VersionResponse 0x01) blank []
   -- D.4
   pub d4 : BothWays 0 (λ r. 0x02 ∷ r ∷ r ∷ r ∷ r ∷ r ∷ r ∷ r ∷ []) ConfigurationRequest blank []
   -- D.5, likewise
-  pub d5 : BothWays 1 (λ r. 0x02 ∷ 0x00 ∷ 0x02 ∷ 0x41 ∷ 0x42 ∷ r ∷ r ∷ r ∷ []) (ConfigurationResponse 0x00) label_aB []
+  pub d5 : BothWays 1 (λ r. 0x02 ∷ 0x00 ∷ 0x02 ∷ 0x41 ∷ 0x42 ∷ r ∷ r ∷ r ∷ []) (ConfigurationResponse 0x00) label_ab []
   pub d5_long : BothWays 1 (λ r. 0x02 ∷ 0x00 ∷ 0x3F ∷ replicate 63 0x41) (ConfigurationResponse 0x00) longest []
   pub d5_error : BothWays 1 (λ r. 0x02 ∷ 0xFF ∷ 0x00 ∷ r ∷ r ∷ r ∷ r ∷ r ∷ []) (ConfigurationResponse 0xFF) blank []
   -- D.6: the pool
@@ -92,7 +92,7 @@ pub record Clauses : Type 0 where
       BothWays 1 (λ r. 0x34 ∷ 0x11 ∷ 0x05 ∷ 0x13 ∷ r ∷ r ∷ r ∷ r ∷ [])
       (AnswerAcknowledgement (record { function = 0x11; state = 5; status = AtOnce; tan = 0x13 })) blank []
   -- reserved bits are not looked at when read: bits 7 and 8 of byte 3 in D.3 and in E.6
-  pub d3_bits : read_of 1 (0x01 ∷ 0x00 ∷ 0xC2 ∷ 0x41 ∷ 0x42 ∷ 0xFF ∷ 0xFF ∷ 0xFF ∷ []) ≡ record { number = 0; message = VersionResponse 0x00; label = label_aB }
+  pub d3_bits : read_of 1 (0x01 ∷ 0x00 ∷ 0xC2 ∷ 0x41 ∷ 0x42 ∷ 0xFF ∷ 0xFF ∷ 0xFF ∷ []) ≡ record { number = 0; message = VersionResponse 0x00; label = label_ab }
   pub e6_bits :
       read_of 1 (0x33 ∷ 0x11 ∷ 0xC5 ∷ 0x13 ∷ 0x14 ∷ 0x15 ∷ 0x16 ∷ 0x17 ∷ [])
       ≡ record { number = 0; message = Command (record { function = 0x11; state = 5; tan = 0x13; value = 0x17161514 }); label = blank }
