@@ -6,12 +6,8 @@ use Rattle.octets.specs.Label.{label_at}
 use Rattle.pool.specs.Fields.{head_at, fixed_of, rest_at, numbers_at}
 use Rattle.pool.specs.StageOne.{code_of, faults_at}
 use Rattle.objects.specs.Objects.{whole_at, is_at, decode, next_at}
-use Rattle.objects.proofs.tables.Statement.{statement}
-use Rattle.objects.proofs.tables.Tie as tie
+use Rattle.objects.proofs.tables.Goals as goal
 
-returns : tie.Need-returns
+pub returns : goal.returns
 unfolding pick number_at label_at head_at fixed_of rest_at numbers_at code_of faults_at whole_at is_at decode next_at
 returns c = record { base = refl; function = refl; state = refl }
-
-pub tables_spec : {M : Type 1} → statement M
-tables_spec = tie.close (tie.spec returns)
