@@ -7,8 +7,7 @@ use Rattle.pool.specs.declared.Head.TheVariants.{Base, Function, State}
 use Rattle.objects.specs.{declared.Kind.TheVariants.Of, declared.Found.Found}
 use Rattle.objects.proofs.Trips.{round_trip}
 use Rattle.flat_object.specs.Flat.{flat_object, flat_kind, kind_from, object_from}
-use Rattle.flat_object.proofs.read_back.Statement.{statement}
-use Rattle.flat_object.proofs.read_back.Tie as tie
+use Rattle.flat_object.proofs.read_back.Goals as goal
 
 kind_back : (h : Head) (place : ℕ) (f : Found) → kind_from (flat_kind (Of h) place f) ≡ Of h
 unfolding pick
@@ -19,8 +18,5 @@ kind_back (State h) place f = refl
 back : (f : Found) (place : ℕ) (h : Head) → f.object.kind ≡ Of h → object_from (flat_object place f) ≡ f.object
 back f place h e = rw (e, kind_back h place f)
 
-returns : tie.Need-returns
+pub returns : goal.returns
 returns c = record { back = back; again = λ f out place legal room done. ap (flat_object place) (round_trip.again (object_from f) out place legal room done) }
-
-pub read_back_spec : {M : Type 1} → statement M
-read_back_spec = tie.close (tie.spec returns)
