@@ -1,6 +1,6 @@
 -- 01, "The pool": "Fields are those of tables A.1 to A.3.", "Numbers are least significant byte first": what the objects of a pool in which no two
 -- fields of an object are alike are read as. The function `tables` of the crate ensures these statements.
-use Rattle.std.specs.Prelude.{ℕ, ◌≡◌, List, ◌∷◌, replicate}
+use Rattle.std.specs.Prelude.{◌≡◌, ◌∷◌, replicate}
 use Rattle.pool.specs.{Sample.sample, declared.Head.TheVariants.Base, declared.Head.TheVariants.Function, declared.Head.TheVariants.State}
 use Rattle.objects.specs.{declared.Object.Object, declared.Kind.TheVariants.Of, Objects.found_at}
 
