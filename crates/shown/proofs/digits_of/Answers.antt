@@ -1,5 +1,4 @@
 -- `shown::digits_of` meets its contract.
-use borrow.Author.Rules.{rules}
 use borrow.Author.Tests.{ne_eqb}
 use Rattle.shown.proofs.digits_of.Goals as goal
 

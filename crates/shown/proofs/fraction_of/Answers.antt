@@ -1,5 +1,4 @@
 -- `shown::fraction_of` meets its contract.
-use borrow.Author.Rules.{rules}
 use native.Mathlib.Nat.{lt_trans}
 use lib.Dec.{lit<}
 use mir.Facts.{to_z-of_z}

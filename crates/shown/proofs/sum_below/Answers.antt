@@ -1,5 +1,4 @@
 -- `shown::sum_below` meets its contract.
-use borrow.Author.Rules.{rules}
 use Rattle.shown.proofs.Sum.{sum_below}
 use Rattle.shown.proofs.sum_below.Goals as goal
 

@@ -6,10 +6,9 @@ use Rattle.printed.proofs.Reading.{reads, tells, minus_sign}
 use Rattle.printed.proofs.Shape.{shaped}
 use Rattle.printed.proofs.Sizes.{longest}
 use Rattle.printed.proofs.Within.{within_half}
-use Rattle.printed.proofs.promises.Statement.{statement}
-use Rattle.printed.proofs.promises.Tie as tie
+use Rattle.printed.proofs.promises.Goals as goal
 
-returns : tie.Need-returns
+pub returns : goal.returns
 returns c =
     record {
       some = λ sum scale decimals. (nearest_of sum scale decimals, is_nearest scale decimals sum);
@@ -25,6 +24,3 @@ returns c =
       shaped = shaped;
       longest = λ value offset bits decimals n v o l g d h. longest value offset bits decimals n v o (above_zero bits l g) d h;
     }
-
-pub promises_spec : {M : Type 1} → statement M
-promises_spec = tie.close (tie.spec returns)

@@ -2,12 +2,8 @@
 use borrow.Author.Rules.{rules}
 use lib.Ieee.{of_bits}
 use Rattle.printed.specs.Text.{text_of, last_digits, places}
-use Rattle.printed.proofs.examples.Statement.{statement}
-use Rattle.printed.proofs.examples.Tie as tie
+use Rattle.printed.proofs.examples.Goals as goal
 
-returns : tie.Need-returns
+pub returns : goal.returns
 unfolding of_bits text_of last_digits places
 returns c = search rules
-
-pub examples_spec : {M : Type 1} → statement M
-examples_spec = tie.close (tie.spec returns)
