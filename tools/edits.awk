@@ -1,7 +1,8 @@
 # Reads wrong edits of one crate, as rt does: below a line 'file:' each 'old:', which stands once in that file of FOLDER, becomes the 'new:' after it.
 # A place is sought in the file as it is, so that edits which would meet each other's text can be made together.
 #
-#   awk -v folder=FOLDER -v task=plan  -f tools/edits.awk EDIT..     prints the runs in which to try the edits, a line for each: those tried together
+#   awk -v folder=FOLDER -v task=plan  -f tools/edits.awk EDIT..     prints the runs in which to try the edits, a line for each: 'bodies' and those tried
+#       together, which change what only the proofs of the functions that they name see, or 'whole' and one of which that is not known
 #   awk -v folder=FOLDER -v task=alter -f tools/edits.awk EDIT..     makes them all; status 3 where one does not fit
 #   awk -v folder=FOLDER -v task=unfit -f tools/edits.awk EDIT..     prints those that do not fit
 FNR == 1 { edits[++count] = FILENAME; file = "" }
@@ -45,7 +46,7 @@ function note(edit, file, old, new,    text, at, function_) {
 # lays a function out, its body is between '{' and '}' below the first letter of its line, or after the '{' that ends the line where it has no contract.
 function body_around(file, text, at,    lines, last, head, i, indent, inside) {
     last = split(substr(text, 1, at), lines, "\n")
-    for (head = last; head && lines[head] !~ /^ *(pub )?(extern "C" )?fn [a-z]/; head--) ;
+    for (head = last; head && lines[head] !~ /^ *(pub(\([a-z]*\))? )?((const|unsafe|final) )*(extern "C" )?fn [a-z_]/; head--) ;
     if (!head) return ""
     match(lines[head], /^ */)
     indent = substr(lines[head], 1, RLENGTH)
@@ -65,14 +66,14 @@ function plan(    i, edit, own, round, rounds, runs) {
         edit = edits[i]
         own = changed[edit]
         if (edit in unfit || own == "" || !is_of(fails[edit], own)) {
-            print edit
+            print "whole " edit
             continue
         }
         round = ++seen[own]
         if (round > rounds) rounds = round
         runs[round] = runs[round] (runs[round] == "" ? "" : " ") edit
     }
-    for (round = 1; round <= rounds; round++) print runs[round]
+    for (round = 1; round <= rounds; round++) print "bodies " runs[round]
 }
 
 # Whether a place is that of a function: 'src/lib.rt name', or 'proofs/../name' where its proof has a file.

@@ -1,74 +1,97 @@
 # What tools/wrong and tools/tandem share: a tree in which crates can be altered, and the places at which the prover refuses one. Read by both, from the
 # top of the repository.
 root=$PWD
+jobs=${RT_JOBS:-$(nproc)}
 
-# The crates that a crate stands on, by crates.txt.
+# Trees stand outside the repository, in which `rt ci` takes a source file in no folder of a crate for one that nothing proves. Whoever runs a tool again
+# for some edits hands it the room.
+if [ -z "${EDITS_ROOM:-}" ]; then
+    EDITS_ROOM=$(mktemp -d)
+    export EDITS_ROOM
+    trap 'rm -rf "$EDITS_ROOM"' EXIT
+fi
+
+# The crates of the repository that a crate stands on, lowest first, by crates.txt.
 below() { # CRATE
-    sed -n "s/^$1: *//p" crates.txt
+    awk -v top="$1" '
+        { sub(/#.*/, ""); colon = index($0, ":") }
+        colon { split($0, words, /[ :]/); stands[words[1]] = substr($0, colon + 1) }
+        function visit(crate,    parts, count, i) {
+            if (!(crate in stands) || crate in seen) return
+            seen[crate] = 1
+            count = split(stands[crate], parts, /[ ,]+/)
+            for (i = 1; i <= count; i++) visit(parts[i])
+            if (crate != top) print crate
+        }
+        END { visit(top) }' crates.txt
 }
 
-# Makes a tree in which the crates named can be altered. The others are those of the repository; so is what is proved of them, but for those that stand on
-# a crate named.
-tree_of() { # TREE CRATE..
-    local tree=$1 other part name
-    shift
-    rm -rf "$tree"
-    mkdir -p "$tree/crates" "$tree/target/log" "$tree/target/rlib" "$tree/target/stamp"
-    cp crates.txt "$tree"
-    for other in crates/*/; do
-        name=$(basename "$other")
-        if grep -qxF "$name" <(printf '%s\n' "$@"); then
-            mkdir "$tree/crates/$name"
-            for part in src specs proofs; do
-                [ ! -d "$other$part" ] || cp -R "$other$part" "$tree/crates/$name"
-            done
-        else
-            ln -s "$root/${other%/}" "$tree/crates"
-            if ! grep -qxFf <(printf '%s\n' "$@") <(below "$name" | tr ' ' '\n'); then
-                for part in "rlib/$name.rlib" "stamp/$name"; do
-                    [ ! -e "target/$part" ] || ln -s "$root/target/$part" "$tree/target/$part"
-                done
-            fi
-        fi
+# Copies a folder by links where these can be made: rt makes such a file anew and does not write into it, but for those beside the checked modules.
+linked() { # FROM TO
+    local file
+    [ -d "$1" ] || return 0
+    if ! cp -al "$1" "$2" 2>/dev/null; then
+        rm -rf "$2"
+        cp -R "$1" "$2"
+        return
+    fi
+    find "$2" -path '*/incremental/*' -type f ! -name '*.oantt' | while IFS= read -r file; do
+        cp -p "$file" "$file.own"
+        mv "$file.own" "$file"
     done
 }
 
-# What is proved of the crate as it stands: its library has it, in the form in which `rt dev` keeps what it goes on from. A program has no library: then
-# all of it is proved anew, as it would be if the kit changed that form; it takes longer, and the verdict is the same.
-known() { # CRATE TREE
-    local library=target/rlib/$1.rlib build folder
-    [ -d "$library/toolchain/checked" ] || return 0
-    build=$(sed -n 's/^rattle-build //p' "$library/format")
-    folder=$2/target/inc/$1/${build//\//_}
-    mkdir -p "$folder"
-    cp "$library/toolchain/checked"/*.oantt "$folder"
+# Makes a tree of crates, some of which are to be altered. What is proved of them is the repository's: of a crate that stands on none of those its library,
+# and of any other what a check goes on from.
+tree_of() { # TREE CRATES ALTERED
+    local tree=$1 crate part altered=" $(echo $3) "
+    rm -rf "$tree"
+    for crate in $2; do
+        mkdir -p "$tree/crates/$crate/out"
+        for part in src specs proofs; do
+            [ ! -d "crates/$crate/$part" ] || cp -R "crates/$crate/$part" "$tree/crates/$crate"
+        done
+        if [[ $altered = *" $crate "* ]] || below "$crate" | grep -qxFf <(printf '%s\n' $3) || [ ! -d "crates/$crate/out/rlib" ]; then
+            linked "crates/$crate/out/incremental" "$tree/crates/$crate/out/incremental"
+        else
+            linked "crates/$crate/out/rlib" "$tree/crates/$crate/out/rlib"
+        fi
+        grep -E "^$crate( [^:]*)?:" crates.txt >>"$tree/crates.txt"
+    done
 }
 
-# Every place at which the prover refuses something, but for what only rests on it: the proof's file without its ending, as 'proofs/stage_two/ids_fault';
-# of a function without such a file the source and its name, as 'src/lib.rt scm_read'.
-places() { # CRATE LOG
-    local file line
-    { grep -av 'was not admitted' "$2" || true; } | sed -n -e 's/^\([^ ]*\): error.*/\1/p' -e 's/^note: \([^ ]*\): it is not proved.*/\1/p' |
-        while IFS=: read -r file line _; do
-            case $file in
-            *.rt)
-                while sed -n "${line}p" "$file" | grep -q '^ *#\['; do line=$((line + 1)); done
-                echo "${file#*/crates/$1/} $(sed -n "1,${line}s/.*fn \([a-z0-9_]*\).*/\1/p" "$file" | tail -n 1)"
-                ;;
-            *) sed -e "s,.*/crates/$1/,," -e 's,/Proof\.antt$,,' -e 's,\.antt$,,' <<<"$file" ;;
-            esac
-        done | awk '!seen[$0]++'
-}
-
-# Proves the crate of a tree. Sets found, the places at which it is refused, and ended, how the prover did.
-judge() { # CRATE TREE
-    local status=0
-    known "$1" "$2"
-    (cd "$2" && RT_CUT=0 rt dev "$1") >"$2.log" 2>&1 || status=$?
+# Proves the crate of a tree. Sets found, the places at which a fact is refused, and ended, how the prover did. With FUNCTIONs only their proofs are looked at.
+judge() { # CRATE TREE EDITED [FUNCTION..]
+    local status=0 crate=$1 tree=$2 edited=$3 said function only=()
+    shift 3
+    for function in "$@"; do only+=(--only "${function//\//::}"); done
+    (cd "$tree/crates/$crate" && rt check --jobs 1 "${only[@]}") >"$tree.log" 2>&1 || status=$?
     ended="exit $status" found=''
-    if [ "$status" = 1 ] && grep -q '^logic=not-proved' "$2.log"; then found=$(places "$1" "$2.log"); fi
+    if [ "$status" = 1 ] && grep -qE '^(logic=not-proved|only=)' "$tree.log"; then
+        said=$(awk -v folder="$tree/crates/$crate" -v edited="$edited" -v task=said -f tools/places.awk "$tree.log")
+        if grep -q '^unread ' <<<"$said"; then
+            ended="it cannot be read: $(sed -n 's/^unread //p' <<<"$said" | head -n 1 | cut -c 1-200)"
+        else
+            found=$(sed -n 's/^place //p' <<<"$said")
+            [ -n "$found" ] || ended='only for what names or rests on something else'
+        fi
+    elif [ "$status" = 1 ]; then
+        ended="it does not reach the prover: $(grep -E 'error|^rt: ' "$tree.log" | head -n 1 | cut -c 1-200)"
+    fi
 }
 
-names() { # EDIT..: the places that edits name
-    sed -n 's/^fails: //p' "$@"
+# The places that edits of a crate name.
+names() { # CRATE EDIT..
+    local crate=$1
+    shift
+    awk -v folder="crates/$crate" -v task=named -f tools/places.awk "$@"
+}
+
+# The files that edits change, in one line, by their paths in the crate.
+files_of() { # EDIT..
+    sed -n -e 's,^file: crates/[^/]*/,,p' -e t -e 's/^file: //p' "$@" | sort -u | paste -sd' '
+}
+
+listed() { # lines as one
+    paste -sd, | sed 's/,/, /g'
 }

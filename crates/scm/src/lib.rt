@@ -1,4 +1,5 @@
-// The calls for C, as include/scm.h declares them: each hands its numbers and slices to a crate below and says what that crate's definition says.
+// The calls that include/scm.h declares: each hands its numbers and slices to a crate below and says what that crate's definition says. Crate scm_c
+// exports each to C under its name.
 #![tactic(auto)]
 
 ghost use Rattle.std.specs.Prelude.{◌≡◌, [], length};
@@ -46,42 +47,33 @@ use shown::Shown;
 // 2.1.1: major * 1,000,000 + minor * 1,000 + patch.
 const VERSION: u32 = 2001001;
 
-#[unsafe(no_mangle)]
-pub extern "C" fn scm_version() -> u32
+pub fn scm_version() -> u32
     ensures { result ≡ version }
 {
     VERSION
 }
 
-#[unsafe(no_mangle)]
-pub extern "C" fn scm_pool_check(bytes: &[u8]) -> Verdict
+pub fn scm_pool_check(bytes: &[u8]) -> Verdict
     ensures { result ≡ verdict_of bytes.now }
 {
     pool::check(bytes)
 }
 
-#[unsafe(no_mangle)]
-pub extern "C" fn scm_profile_of(bytes: &[u8]) -> Profile
+pub fn scm_profile_of(bytes: &[u8]) -> Profile
     ensures { result ≡ profile_of bytes.now }
 {
     profile::profile_of(bytes)
 }
 
 // The object at a place of a pool.
-#[unsafe(no_mangle)]
-pub extern "C" fn scm_object_at(bytes: &[u8], place: usize) -> FlatObject
+pub fn scm_object_at(bytes: &[u8], place: usize) -> FlatObject
     ensures { result ≡ flat_object place (found_at bytes.now place) }
 {
     flat_object::object_at(bytes, place)
 }
 
 // The bytes of an object, at a place of the lent buffer.
-#[unsafe(no_mangle)]
-pub extern "C" fn scm_write_object(
-    object: FlatObject,
-    place: usize,
-    out: &mut [u8],
-) -> objects::Written
+pub fn scm_write_object(object: FlatObject, place: usize, out: &mut [u8]) -> objects::Written
     ensures value { result ≡ write_answer (object_from object) out.old place }
     ensures out_after { out.new ≡ write_out (object_from object) out.old place }
 {
@@ -89,8 +81,7 @@ pub extern "C" fn scm_write_object(
 }
 
 // A pool taken apart and written again.
-#[unsafe(no_mangle)]
-pub extern "C" fn scm_pool_rewrite(bytes: &[u8], out: &mut [u8]) -> Rewritten
+pub fn scm_pool_rewrite(bytes: &[u8], out: &mut [u8]) -> Rewritten
     ensures value { result ≡ rewrite_answer bytes.now out.old }
     ensures out_after { out.new ≡ rewrite_out bytes.now out.old }
 {
@@ -98,39 +89,34 @@ pub extern "C" fn scm_pool_rewrite(bytes: &[u8], out: &mut [u8]) -> Rewritten
 }
 
 // What bytes that a side sent say: side 0 is a client, 1 the master.
-#[unsafe(no_mangle)]
-pub extern "C" fn scm_read(side: u32, bytes: &[u8]) -> FlatReading
+pub fn scm_read(side: u32, bytes: &[u8]) -> FlatReading
     ensures { result ≡ reading_of side bytes.now }
 {
     flat::read(side, bytes)
 }
 
-#[unsafe(no_mangle)]
-pub extern "C" fn scm_write(message: Flat, out: &mut [u8]) -> Written
+pub fn scm_write(message: Flat, out: &mut [u8]) -> Written
     ensures value { result ≡ written_of (message_from message) message.label [] (length out.old) }
     ensures out_after { out.new ≡ written_over (message_from message) message.label [] out.old }
 {
     flat::write(message, out)
 }
 
-#[unsafe(no_mangle)]
-pub extern "C" fn scm_write_transfer(pool: &[u8], out: &mut [u8]) -> Written
+pub fn scm_write_transfer(pool: &[u8], out: &mut [u8]) -> Written
     ensures value { result ≡ written_of Transfer blank pool.now (length out.old) }
     ensures out_after { out.new ≡ written_over Transfer blank pool.now out.old }
 {
     message::write_transfer(pool, out)
 }
 
-#[unsafe(no_mangle)]
-pub extern "C" fn scm_shown_of(value: u32, offset: i32, scale: f32) -> Shown
+pub fn scm_shown_of(value: u32, offset: i32, scale: f32) -> Shown
     ensures value { result ≡ shown_of value offset scale }
     ensures exact { Exact value offset scale result }
 {
     shown::shown_of(value, offset, scale)
 }
 
-#[unsafe(no_mangle)]
-pub extern "C" fn scm_shown_bits(value: u32, offset: i32, scale: u32) -> Shown
+pub fn scm_shown_bits(value: u32, offset: i32, scale: u32) -> Shown
     ensures value { result ≡ shown_of value offset (of_bits binary32 scale) }
     ensures exact { Exact value offset (of_bits binary32 scale) result }
 {
@@ -138,8 +124,7 @@ pub extern "C" fn scm_shown_bits(value: u32, offset: i32, scale: u32) -> Shown
 }
 
 // The shown value as text.
-#[unsafe(no_mangle)]
-pub extern "C" fn scm_write_shown(
+pub fn scm_write_shown(
     value: u32,
     offset: i32,
     scale: f32,
@@ -153,37 +138,32 @@ pub extern "C" fn scm_write_shown(
 
 // ---- The master: each event takes the old state and gives back the new one.
 
-#[unsafe(no_mangle)]
-pub extern "C" fn scm_master_new() -> Master
+pub fn scm_master_new() -> Master
     ensures { result ≡ new_master }
 {
     Master::new()
 }
 
-#[unsafe(no_mangle)]
-pub extern "C" fn scm_master_on(master: Master) -> Outcome
+pub fn scm_master_on(master: Master) -> Outcome
     ensures { result ≡ outcome_of master (on_call master) }
 {
     master.on()
 }
 
-#[unsafe(no_mangle)]
-pub extern "C" fn scm_master_off(master: Master) -> Outcome
+pub fn scm_master_off(master: Master) -> Outcome
     ensures { result ≡ outcome_of master (off_call master) }
 {
     master.off()
 }
 
-#[unsafe(no_mangle)]
-pub extern "C" fn scm_master_attach(master: Master, slot: usize, name: u64, pool: &[u8]) -> Outcome
+pub fn scm_master_attach(master: Master, slot: usize, name: u64, pool: &[u8]) -> Outcome
     ensures { result ≡ outcome_of master (attach_call master slot name pool.now) }
 {
     master.attach(slot, name, pool)
 }
 
 // E.2 out.
-#[unsafe(no_mangle)]
-pub extern "C" fn scm_master_enable(master: Master, slot: usize, out: &mut [u8]) -> Outcome
+pub fn scm_master_enable(master: Master, slot: usize, out: &mut [u8]) -> Outcome
     ensures value { result ≡ outcome_of master (want_call 1 master slot out.old) }
     ensures out_after { out.new ≡ leaves_of (want_call 1 master slot out.old) }
 {
@@ -191,57 +171,45 @@ pub extern "C" fn scm_master_enable(master: Master, slot: usize, out: &mut [u8])
 }
 
 // E.2 out.
-#[unsafe(no_mangle)]
-pub extern "C" fn scm_master_disable(master: Master, slot: usize, out: &mut [u8]) -> Outcome
+pub fn scm_master_disable(master: Master, slot: usize, out: &mut [u8]) -> Outcome
     ensures value { result ≡ outcome_of master (want_call 0 master slot out.old) }
     ensures out_after { out.new ≡ leaves_of (want_call 0 master slot out.old) }
 {
     master.disable(slot, out)
 }
 
-#[unsafe(no_mangle)]
-pub extern "C" fn scm_master_report(master: Master, slot: usize, report: u32) -> Outcome
+pub fn scm_master_report(master: Master, slot: usize, report: u32) -> Outcome
     ensures { result ≡ outcome_of master (report_call master slot report) }
 {
     master.report(slot, report)
 }
 
-#[unsafe(no_mangle)]
-pub extern "C" fn scm_master_lost(master: Master, slot: usize) -> Outcome
+pub fn scm_master_lost(master: Master, slot: usize) -> Outcome
     ensures { result ≡ outcome_of master (lost_call master slot) }
 {
     master.lost(slot)
 }
 
-#[unsafe(no_mangle)]
-pub extern "C" fn scm_master_record(master: Master) -> Outcome
+pub fn scm_master_record(master: Master) -> Outcome
     ensures { result ≡ outcome_of master (record_call master) }
 {
     master.record()
 }
 
-#[unsafe(no_mangle)]
-pub extern "C" fn scm_master_stop(master: Master) -> Outcome
+pub fn scm_master_stop(master: Master) -> Outcome
     ensures { result ≡ outcome_of master (stop_call master) }
 {
     master.stop()
 }
 
-#[unsafe(no_mangle)]
-pub extern "C" fn scm_master_cancel(master: Master) -> Outcome
+pub fn scm_master_cancel(master: Master) -> Outcome
     ensures { result ≡ outcome_of master (cancel_call master) }
 {
     master.cancel()
 }
 
 // E.4 in, E.5 out.
-#[unsafe(no_mangle)]
-pub extern "C" fn scm_master_indication(
-    master: Master,
-    slot: usize,
-    msg: &[u8],
-    out: &mut [u8],
-) -> Outcome
+pub fn scm_master_indication(master: Master, slot: usize, msg: &[u8], out: &mut [u8]) -> Outcome
     ensures value { result ≡ outcome_of master (indication_call master slot msg.now out.old) }
     ensures out_after { out.new ≡ leaves_of (indication_call master slot msg.now out.old) }
 {
@@ -249,30 +217,26 @@ pub extern "C" fn scm_master_indication(
 }
 
 // E.3 in.
-#[unsafe(no_mangle)]
-pub extern "C" fn scm_master_client_abort(master: Master, slot: usize, msg: &[u8]) -> Outcome
+pub fn scm_master_client_abort(master: Master, slot: usize, msg: &[u8]) -> Outcome
     ensures { result ≡ outcome_of master (client_abort_call master slot msg.now) }
 {
     master.client_abort(slot, msg)
 }
 
-#[unsafe(no_mangle)]
-pub extern "C" fn scm_master_start(master: Master) -> Outcome
+pub fn scm_master_start(master: Master) -> Outcome
     ensures { result ≡ outcome_of master (start_call master) }
 {
     master.start()
 }
 
-#[unsafe(no_mangle)]
-pub extern "C" fn scm_master_abort(master: Master) -> Outcome
+pub fn scm_master_abort(master: Master) -> Outcome
     ensures { result ≡ outcome_of master (abort_call master) }
 {
     master.abort()
 }
 
 // The frames out: the slot and E.6.
-#[unsafe(no_mangle)]
-pub extern "C" fn scm_master_tick(master: Master, mm: u32, out: &mut [u8]) -> Outcome
+pub fn scm_master_tick(master: Master, mm: u32, out: &mut [u8]) -> Outcome
     ensures value { result ≡ outcome_of master (tick_call master mm out.old) }
     ensures out_after { out.new ≡ leaves_of (tick_call master mm out.old) }
 {
@@ -280,13 +244,7 @@ pub extern "C" fn scm_master_tick(master: Master, mm: u32, out: &mut [u8]) -> Ou
 }
 
 // E.7 in, E.8 out.
-#[unsafe(no_mangle)]
-pub extern "C" fn scm_master_answer(
-    master: Master,
-    slot: usize,
-    msg: &[u8],
-    out: &mut [u8],
-) -> Outcome
+pub fn scm_master_answer(master: Master, slot: usize, msg: &[u8], out: &mut [u8]) -> Outcome
     ensures value { result ≡ outcome_of master (answer_call master slot msg.now out.old) }
     ensures out_after { out.new ≡ leaves_of (answer_call master slot msg.now out.old) }
 {
@@ -294,23 +252,20 @@ pub extern "C" fn scm_master_answer(
 }
 
 // The sequence's blocks out.
-#[unsafe(no_mangle)]
-pub extern "C" fn scm_master_store(master: Master, blocks: &mut [u8]) -> Outcome
+pub fn scm_master_store(master: Master, blocks: &mut [u8]) -> Outcome
     ensures value { result ≡ outcome_of master (store_call master blocks.old) }
     ensures blocks_after { blocks.new ≡ leaves_of (store_call master blocks.old) }
 {
     master.store(blocks)
 }
 
-#[unsafe(no_mangle)]
-pub extern "C" fn scm_master_load(master: Master, blocks: &[u8]) -> Outcome
+pub fn scm_master_load(master: Master, blocks: &[u8]) -> Outcome
     ensures { result ≡ outcome_of master (load_call master blocks.now) }
 {
     master.load(blocks)
 }
 
-#[unsafe(no_mangle)]
-pub extern "C" fn scm_master_edition(master: Master, edition: u32) -> Outcome
+pub fn scm_master_edition(master: Master, edition: u32) -> Outcome
     ensures { result ≡ outcome_of master (edition_call master edition) }
 {
     master.edition(edition)
@@ -318,75 +273,61 @@ pub extern "C" fn scm_master_edition(master: Master, edition: u32) -> Outcome
 
 // ---- The readers: each takes the part of the master that it reads, or the whole where it reads the slots.
 
-#[unsafe(no_mangle)]
-pub extern "C" fn scm_master_state(state: u8) -> u8
+pub fn scm_master_state(state: u8) -> u8
     ensures { result ≡ state_of state }
 {
     master::readers::state_of(state)
 }
 
-#[unsafe(no_mangle)]
-pub extern "C" fn scm_master_slot(master: Master, slot: usize) -> SlotView
+pub fn scm_master_slot(master: Master, slot: usize) -> SlotView
     ensures { result ≡ slot_view master slot }
 {
     master.slot(slot)
 }
 
-#[unsafe(no_mangle)]
-pub extern "C" fn scm_master_step_count(sequence: Sequence) -> usize
+pub fn scm_master_step_count(sequence: Sequence) -> usize
     ensures { result ≡ length_of sequence }
 {
     sequence.len()
 }
 
-#[unsafe(no_mangle)]
-pub extern "C" fn scm_master_sequence_edition(sequence: Sequence) -> u32
+pub fn scm_master_sequence_edition(sequence: Sequence) -> u32
     ensures { result ≡ edition_of sequence }
 {
     master::readers::edition_of(sequence)
 }
 
-#[unsafe(no_mangle)]
-pub extern "C" fn scm_master_step(sequence: Sequence, i: usize) -> StepView
+pub fn scm_master_step(sequence: Sequence, i: usize) -> StepView
     ensures { result ≡ step_view sequence i }
 {
     master::readers::step_at(sequence, i)
 }
 
-#[unsafe(no_mangle)]
-pub extern "C" fn scm_master_client(sequence: Sequence, slot: usize) -> ClientView
+pub fn scm_master_client(sequence: Sequence, slot: usize) -> ClientView
     ensures { result ≡ client_view sequence slot }
 {
     master::readers::client_at(sequence, slot)
 }
 
-#[unsafe(no_mangle)]
-pub extern "C" fn scm_master_verify(master: Master) -> Named
+pub fn scm_master_verify(master: Master) -> Named
     ensures { result ≡ verify_view master }
 {
     master.verify()
 }
 
-#[unsafe(no_mangle)]
-pub extern "C" fn scm_master_progress(
-    state: u8,
-    recording: Recording,
-    playback: Playback,
-) -> Progress
+pub fn scm_master_progress(state: u8, recording: Recording, playback: Playback) -> Progress
     ensures { result ≡ progress_of state recording playback }
 {
     master::readers::progress_of(state, recording, playback)
 }
 
-#[unsafe(no_mangle)]
-pub extern "C" fn scm_master_taken(recording: Recording, i: usize) -> TakenView
+pub fn scm_master_taken(recording: Recording, i: usize) -> TakenView
     ensures { result ≡ taken_view recording i }
 {
     master::readers::taken_at(recording, i)
 }
 
-#[unsafe(no_mangle)]
-pub extern "C" fn scm_master_sent(playback: Playback, i: usize) -> SentView
+pub fn scm_master_sent(playback: Playback, i: usize) -> SentView
     ensures { result ≡ sent_view playback i }
 {
     master::readers::sent_at(playback, i)
