@@ -3,10 +3,12 @@ use mathlib.Core.Path.{◌≡◌, refl, sym, ap, ◌∙◌}
 use mathlib.Core.Bool.{Bool, true, false, cond}
 use mathlib.Core.List.{List, [], ◌∷◌, ◌++◌, append-nil, append_assoc}
 use Prim.Native.Nat.{ℕ, zero, suc, ◌+◌, ◌*◌, ◌≤◌, ◌<◌}
+use native.Mathlib.Nat.{zero-add}
 use native.Mathlib.Numerals.{add-one}
 use native.Mathlib.Omega.{arith}
 use lib.ListN.{take, drop, length, get_or, replicate, length-append, length-take}
-use lib.Seq.{take_all, take-length, sets}
+use lib.Seq.{take_all, sets}
+use Rattle.std.proofs.lemmas.List.Edits.{sets-eq}
 use Rattle.arrays.specs.Arrays.{pad_to}
 use Rattle.arrays.proofs.Fill.{pad_none, length_pad, pad_set}
 use Rattle.sequence.specs.Sequence.{blank_step}
@@ -111,5 +113,5 @@ module _ (ticks : ℕ) where
     full i n h k = rw (take_all i cs h, take_all n cs k)
 
 -- what a copy of the whole buffer leaves
-pub copied : (b f out : List ℕ) (n : ℕ) → b ≡ f → length f ≡ n → take (length b) b ++ drop (length b) out ≡ f ++ drop n out
-copied b f out n e q = rw (e, take-length f, q)
+pub copied : (b f out : List ℕ) (n : ℕ) → b ≡ f → length f ≡ n → n ≤ length out → sets out 0 b ≡ f ++ drop n out
+copied b f out n e q h = rw (e, ← q) (sets-eq f out 0 (omega arith) ∙ rw (zero-add (length f)))

@@ -250,7 +250,7 @@ pub fn frames(playback: Playback, sequence: Sequence, out: &mut [u8]) -> u32
     let steps = sequence.steps;
     let mut filled = [0u8; 576];
     let count = buffer::fill(playback.ticks, commands, playback.sent, steps, &mut filled);
-    bytes::copy(&filled, out);
+    octets::put_bytes(out, 0, &filled);
     count
 }
 
