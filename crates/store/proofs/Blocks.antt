@@ -144,4 +144,4 @@ at_sealed {p} number (content ∷ contents) (suc k) a h =
     let e : p + block_bytes + block_bytes * k ≡ p + block_bytes * suc k = omega arith in
     let f : number + 1 + k ≡ number + suc k = omega arith in
     rw (e, f) at
-    (at_sealed (number + 1) contents k (at_right (sealed number content) (sealed_from (number + 1) contents) block_bytes (length_sealed number content) a) (omega arith))
+    (at_sealed {p = p + block_bytes} (number + 1) contents k (at_right (sealed number content) (sealed_from (number + 1) contents) block_bytes (length_sealed number content) a) (omega arith))

@@ -55,7 +55,7 @@ module _ (w : ℕ) where
   at_joined {p} (x ∷ l) zero h a b = rw (mul-zero w, add-zero p) (at_left x (joined l) a)
   at_joined {p} (x ∷ l) (suc k) h a b =
       let e : p + w + w * k ≡ p + w * suc k = omega (arith, mul-suc w k) in
-      rw e at (at_joined l k h.1 (at_right x (joined l) w h.0 a) (omega arith))
+      rw e at (at_joined {p = p + w} l k h.1 (at_right x (joined l) w h.0 a) (omega arith))
 
 -- ---- n of them to a block
 
