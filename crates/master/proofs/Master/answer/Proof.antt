@@ -10,11 +10,11 @@ use borrow.Author.Rules.{rules}
 use Rattle.master.proofs.Master.answer.Statement.{statement}
 use Rattle.master.proofs.Master.answer.Tie as tie
 
-abbrev call : tie.After-refusal → Call
+abbrev call : tie.After-refusal-why → Call
 call c =
-    let a = c.before.before.before.before.before.before.before.before.before.before.before.before.before.before.before.args in answer_call a.t1 a.slot a.msg.now a.out.now
+    let a = c.before.before.before.before.before.before.before.before.before.before.before.before.before.before.before.before.args in answer_call a.self a.slot a.msg.now a.out.now
 
-why : (c : tie.After-refusal) → c.refusal.result ≡ number_of (call c)
+why : (c : tie.After-refusal-why) → c.refusal-why.result ≡ number_of (call c)
 unfolding answer_call
 why c =
     let at_is_taken = c.before in
@@ -24,22 +24,22 @@ why c =
     let at_reply_from = at_octet.before.before.before in
     let at_at_most = at_reply_from.before.before in
     let at_read = at_at_most.before.before in
-    let a = at_read.before.before.before.args in
-    rw (← kind_is _ _ at_read.read.ensures, ← step_is _ _ at_read.read.ensures, ← at_reply_from.reply_from.ensures)
-    (asked_at a.t1.slots a.slot _ at_at_most.at_most.ensures _ _ _ _ _ _ _ at_is_taken.is_taken.ensures
-    (λ l. at_unmatched.unmatched.ensures ∙ ap (λ (x : Answered). unmatched a.t1.state x.number) (answered_at _ _ _ _ _ _ (here _ _ at_octet.octet.ensures l) at_answer.answer.ensures))
-    c.refusal.ensures)
+    let a = at_read.before.before.before.before.args in
+    rw (← kind_is _ _ at_read.before.read-reading.ensures, ← step_is _ _ at_read.before.read-reading.ensures, ← at_reply_from.reply_from-reply.ensures)
+    (asked_at a.self.slots a.slot _ at_at_most.before.at_most-at.ensures _ _ _ _ _ _ _ at_is_taken.is_taken.ensures
+    (λ l. at_unmatched.unmatched-own.ensures ∙ ap (λ (x : Answered). unmatched a.self.state x.number) (answered_at _ _ _ _ _ _ (here _ _ at_octet.octet.ensures l) at_answer.answer-answered.ensures))
+    c.refusal-why.ensures)
 
-returns : tie.Need-returns
+returns : tie.Need-returns-then-why-ne-DONE
 unfolding answer_call
 returns c =
     let at_if1 = c.before in
     let at_refusal = at_if1.before in (
-      c.gives.ensures ∙ refused (call at_refusal) _ (why at_refusal) _ at_if1.if1.true refl refl,
-      kept (call at_refusal) _ (why at_refusal) at_if1.if1.true,
+      c.gives.ensures ∙ refused (call at_refusal) _ (why at_refusal) _ at_if1.if-why-ne-DONE.true refl refl,
+      kept (call at_refusal) _ (why at_refusal) at_if1.if-why-ne-DONE.true,
     )
 
-returns_2 : tie.Need-returns-2
+returns_2 : tie.Need-returns
 unfolding answer_call
 returns_2 c =
     let at_replied = c.before in
@@ -50,19 +50,19 @@ returns_2 c =
     let at_octet = at_answer.before in
     let at_reply_from = at_octet.before.before.before in
     let at_read = at_reply_from.before.before.before.before in
-    let l = below _ _ (passed _ _ _ _ _ (sym (why at_refusal) ∙ at_if1.if1.false)).here in
-    let h = answered_at _ _ _ _ _ _ (here _ _ at_octet.octet.ensures l) at_answer.answer.ensures in (
+    let l = below _ _ (passed _ _ _ _ _ (sym (why at_refusal) ∙ at_if1.if-why-ne-DONE.false)).here in
+    let h = answered_at _ _ _ _ _ _ (here _ _ at_octet.octet.ensures l) at_answer.answer-answered.ensures in (
       rw (
-        c.gives2.ensures,
+        c.gives-2.ensures,
         at_replied.replied.ensures,
         h,
-        at_reply_from.reply_from.ensures,
-        step_is _ _ at_read.read.ensures,
-      ) (done (call at_refusal) _ (why at_refusal) _ at_if1.if1.false refl),
+        at_reply_from.reply_from-reply.ensures,
+        step_is _ _ at_read.before.read-reading.ensures,
+      ) (done (call at_refusal) _ (why at_refusal) _ at_if1.if-why-ne-DONE.false refl),
       rw (
-        ← written (call at_refusal) _ (why at_refusal) at_if1.if1.false,
-        ← step_is _ _ at_read.read.ensures,
-        ← at_reply_from.reply_from.ensures,
+        ← written (call at_refusal) _ (why at_refusal) at_if1.if-why-ne-DONE.false,
+        ← step_is _ _ at_read.before.read-reading.ensures,
+        ← at_reply_from.reply_from-reply.ensures,
       ) at_write_receipt.write_receipt.ensures,
     )
 

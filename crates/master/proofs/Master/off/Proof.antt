@@ -7,26 +7,26 @@ use borrow.Author.Rules.{rules}
 use Rattle.master.proofs.Master.off.Statement.{statement}
 use Rattle.master.proofs.Master.off.Tie as tie
 
-abbrev call : tie.After-refusal → Call
+abbrev call : tie.After-refusal-why → Call
 call c = let a = c.before.before.before.before.before.args in off_call a.self
 
-why : (c : tie.After-refusal) → c.refusal.result ≡ number_of (call c)
+why : (c : tie.After-refusal-why) → c.refusal-why.result ≡ number_of (call c)
 unfolding off_call
-why c = rw (← c.before.before.before.some_slot.ensures, ← c.before.before.awake.ensures) c.refusal.ensures
+why c = rw (← c.before.before.before.some_slot.ensures, ← c.before.before.awake-own.ensures) c.refusal-why.ensures
 
-returns : tie.Need-returns
+returns : tie.Need-returns-then-why-ne-DONE
 unfolding off_call
 returns c =
     let at_if1 = c.before in
     let at_refusal = at_if1.before in
-    c.gives.ensures ∙ refused (call at_refusal) _ (why at_refusal) _ at_if1.if1.true refl refl
+    c.gives.ensures ∙ refused (call at_refusal) _ (why at_refusal) _ at_if1.if-why-ne-DONE.true refl refl
 
-returns_2 : tie.Need-returns-2
+returns_2 : tie.Need-returns
 unfolding off_call
 returns_2 c =
     let at_if1 = c.before in
     let at_refusal = at_if1.before in
-    rw c.gives2.ensures (done (call at_refusal) _ (why at_refusal) _ at_if1.if1.false refl)
+    rw c.gives-2.ensures (done (call at_refusal) _ (why at_refusal) _ at_if1.if-why-ne-DONE.false refl)
 
 pub off_spec : {M : Type 1} → statement M
 off_spec =

@@ -11,10 +11,10 @@ use borrow.Author.Rules.{rules}
 use Rattle.master.proofs.Master.report.Statement.{statement}
 use Rattle.master.proofs.Master.report.Tie as tie
 
-abbrev call : tie.After-refusal → Call
-call c = let a = c.before.before.before.before.before.before.args in report_call a.t1 a.slot a.report
+abbrev call : tie.After-refusal-why → Call
+call c = let a = c.before.before.before.before.before.before.args in report_call a.self a.slot a.report
 
-why : (c : tie.After-refusal) → c.refusal.result ≡ number_of (call c)
+why : (c : tie.After-refusal-why) → c.refusal-why.result ≡ number_of (call c)
 unfolding report_call
 why c =
     let at_is_taken = c.before in
@@ -22,18 +22,18 @@ why c =
     let at_at_most = at_unexpected.before.before in
     let at_report_from = at_at_most.before in
     let start = at_report_from.before in
-    rw (← at_report_from.report_from.ensures)
-    (asked start.args.t1.slots start.args.slot _ at_at_most.at_most.ensures _ _ _ not (λ s. unexpected s at_report_from.report_from.result) _ _ _
-    at_is_taken.is_taken.ensures at_unexpected.unexpected.ensures c.refusal.ensures)
+    rw (← at_report_from.report_from-known.ensures)
+    (asked start.args.self.slots start.args.slot _ at_at_most.at_most-at.ensures _ _ _ not (λ s. unexpected s at_report_from.report_from-known.result) _ _ _
+    at_is_taken.is_taken.ensures at_unexpected.unexpected-own.ensures c.refusal-why.ensures)
 
-returns : tie.Need-returns
+returns : tie.Need-returns-then-why-ne-DONE
 unfolding report_call
 returns c =
     let at_if1 = c.before in
     let at_refusal = at_if1.before in
-    c.gives.ensures ∙ refused (call at_refusal) _ (why at_refusal) _ at_if1.if1.true refl refl
+    c.gives.ensures ∙ refused (call at_refusal) _ (why at_refusal) _ at_if1.if-why-ne-DONE.true refl refl
 
-returns_2 : tie.Need-returns-2
+returns_2 : tie.Need-returns-then-is_over
 unfolding report_call reported
 returns_2 c =
     let at_ended = c.before in
@@ -46,23 +46,23 @@ returns_2 c =
     let at_at_most = at_refusal.before.before.before.before in
     let at_report_from = at_at_most.before in
     let a = at_report_from.before.args in
-    let l : a.slot < 8 = below _ _ (passed _ _ _ _ _ (sym (why at_refusal) ∙ at_if1.if1.false)).here in
+    let l : a.slot < 8 = below _ _ (passed _ _ _ _ _ (sym (why at_refusal) ∙ at_if1.if-why-ne-DONE.false)).here in
     rw (
-      c.gives2.ensures,
+      c.gives-then-is_over.ensures,
       at_ended.ended.ensures,
       at_end_of.end_of.ensures,
       at_reported_slot.reported_slot.ensures,
-      here _ _ at_at_most.at_most.ensures l,
-      at_report_from.report_from.ensures,
+      here _ _ at_at_most.at_most-at.ensures l,
+      at_report_from.report_from-known.ensures,
     )
     (ap (gives 0)
-    (followed_over (is_over a.t1.state (slot_at a.t1 a.slot) (report_from a.report))
-    (with_slot a.t1 a.slot (reported_slot (slot_at a.t1 a.slot) (report_from a.report)))
-    (rw (← at_report_from.report_from.ensures)
-    (over_here a.t1.slots a.slot _ at_at_most.at_most.ensures a.t1.state at_report_from.report_from.result _ _ l at_is_over.is_over.ensures at_if2.if2.true)))
-    ∙ done (call at_refusal) _ (why at_refusal) _ at_if1.if1.false refl)
+    (followed_over (is_over a.self.state (slot_at a.self a.slot) (report_from a.report))
+    (with_slot a.self a.slot (reported_slot (slot_at a.self a.slot) (report_from a.report)))
+    (rw (← at_report_from.report_from-known.ensures)
+    (over_here a.self.slots a.slot _ at_at_most.at_most-at.ensures a.self.state at_report_from.report_from-known.result _ _ l at_is_over.is_over.ensures at_if2.if-is_over.true)))
+    ∙ done (call at_refusal) _ (why at_refusal) _ at_if1.if-why-ne-DONE.false refl)
 
-returns_3 : tie.Need-returns-3
+returns_3 : tie.Need-returns
 unfolding report_call reported
 returns_3 c =
     let at_settled = c.before in
@@ -74,20 +74,20 @@ returns_3 c =
     let at_at_most = at_refusal.before.before.before.before in
     let at_report_from = at_at_most.before in
     let a = at_report_from.before.args in
-    let l : a.slot < 8 = below _ _ (passed _ _ _ _ _ (sym (why at_refusal) ∙ at_if1.if1.false)).here in
+    let l : a.slot < 8 = below _ _ (passed _ _ _ _ _ (sym (why at_refusal) ∙ at_if1.if-why-ne-DONE.false)).here in
     rw (
-      c.gives3.ensures,
+      c.gives-2.ensures,
       at_settled.settled.ensures,
       at_reported_slot.reported_slot.ensures,
-      here _ _ at_at_most.at_most.ensures l,
-      at_report_from.report_from.ensures,
+      here _ _ at_at_most.at_most-at.ensures l,
+      at_report_from.report_from-known.ensures,
     )
     (ap (gives 0)
-    (followed_on (is_over a.t1.state (slot_at a.t1 a.slot) (report_from a.report))
-    (with_slot a.t1 a.slot (reported_slot (slot_at a.t1 a.slot) (report_from a.report)))
-    (rw (← at_report_from.report_from.ensures)
-    (over_here a.t1.slots a.slot _ at_at_most.at_most.ensures a.t1.state at_report_from.report_from.result _ _ l at_is_over.is_over.ensures at_if2.if2.false)))
-    ∙ done (call at_refusal) _ (why at_refusal) _ at_if1.if1.false refl)
+    (followed_on (is_over a.self.state (slot_at a.self a.slot) (report_from a.report))
+    (with_slot a.self a.slot (reported_slot (slot_at a.self a.slot) (report_from a.report)))
+    (rw (← at_report_from.report_from-known.ensures)
+    (over_here a.self.slots a.slot _ at_at_most.at_most-at.ensures a.self.state at_report_from.report_from-known.result _ _ l at_is_over.is_over.ensures at_if2.if-is_over.false)))
+    ∙ done (call at_refusal) _ (why at_refusal) _ at_if1.if-why-ne-DONE.false refl)
 
 pub report_spec : {M : Type 1} → statement M
 report_spec =

@@ -8,41 +8,41 @@ use borrow.Author.Rules.{rules}
 use Rattle.master.proofs.Master.tick.Statement.{statement}
 use Rattle.master.proofs.Master.tick.Tie as tie
 
-abbrev call : tie.After-refusal → Call
+abbrev call : tie.After-refusal-why → Call
 call c = let a = c.before.before.before.args in tick_call a.self a.mm a.out.now
 
-why : (c : tie.After-refusal) → c.refusal.result ≡ number_of (call c)
+why : (c : tie.After-refusal-why) → c.refusal-why.result ≡ number_of (call c)
 unfolding tick_call
-why c = c.refusal.ensures
+why c = c.refusal-why.ensures
 
-returns : tie.Need-returns
+returns : tie.Need-returns-then-why-ne-DONE
 unfolding tick_call
 returns c =
     let at_if1 = c.before in
     let at_refusal = at_if1.before in (
-      c.gives.ensures ∙ refused (call at_refusal) _ (why at_refusal) _ at_if1.if1.true refl refl,
-      kept (call at_refusal) _ (why at_refusal) at_if1.if1.true,
+      c.gives.ensures ∙ refused (call at_refusal) _ (why at_refusal) _ at_if1.if-why-ne-DONE.true refl refl,
+      kept (call at_refusal) _ (why at_refusal) at_if1.if-why-ne-DONE.true,
     )
 
-write_frames_requires : tie.Need-write-frames-requires
+write_frames_requires : tie.Need-write_frames-count-requires
 unfolding tick_call
 write_frames_requires c κs =
     let at_if1 = c.before.before in
     let at_refusal = at_if1.before in
-    ltb-false _ _ (passed _ _ _ _ _ (sym (why at_refusal) ∙ at_if1.if1.false)).fits
+    ltb-false _ _ (passed _ _ _ _ _ (sym (why at_refusal) ∙ at_if1.if-why-ne-DONE.false)).fits
 
-returns_2 : tie.Need-returns-2
+returns_2 : tie.Need-returns
 unfolding tick_call
 returns_2 c =
     let at_write_frames = c.before.before in
     let at_ticked = at_write_frames.before.before in
     let at_if1 = at_ticked.before in
     let at_refusal = at_if1.before in (
-      rw (at_write_frames.write_frames.ensures.0, at_ticked.ticked.ensures) (counted (call at_refusal) _ (why at_refusal) _ at_if1.if1.false),
+      rw (at_write_frames.write_frames-count.ensures.0, at_ticked.ticked-after.ensures) (counted (call at_refusal) _ (why at_refusal) _ at_if1.if-why-ne-DONE.false),
       rw (
-        ← written (call at_refusal) _ (why at_refusal) at_if1.if1.false,
-        ← at_ticked.ticked.ensures,
-      ) at_write_frames.write_frames.ensures.1,
+        ← written (call at_refusal) _ (why at_refusal) at_if1.if-why-ne-DONE.false,
+        ← at_ticked.ticked-after.ensures,
+      ) at_write_frames.write_frames-count.ensures.1,
     )
 
 pub tick_spec : {M : Type 1} → statement M

@@ -1,0 +1,13 @@
+-- `master::Master::on` meets its contract: by its tests, in their order.
+use mathlib.Core.Path.{refl, ◌∙◌}
+use Rattle.master.specs.Clients.{on_call}
+use Rattle.master.proofs.Calls.{refused, done}
+use Rattle.master.proofs.Master.on.Goals as goal
+
+pub returns-then-why-ne-DONE : goal.returns-then-why-ne-DONE
+unfolding on_call
+returns-then-why-ne-DONE c = c.gives.ensures ∙ refused _ _ c.refusal-why.ensures _ c.if-why-ne-DONE.true refl refl
+
+pub returns : goal.returns
+unfolding on_call
+returns c = rw c.gives-2.ensures (done _ _ c.refusal-why.ensures _ c.if-why-ne-DONE.false refl)
