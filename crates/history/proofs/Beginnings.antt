@@ -7,10 +7,8 @@ use lib.ListN.{length}
 use Rattle.arrays.specs.Arrays.{some, those}
 use Rattle.arrays.specs.Every.{Every}
 use Rattle.arrays.proofs.Every.{every_weaken}
-use Rattle.recording.specs.Indication.{status}
 use Rattle.recording.specs.Promises.{start_of}
 use Rattle.recording.specs.declared.Taken.{Taken}
-use Rattle.recording.proofs.Cases.{step}
 use Rattle.history.specs.Steps.{Entry, is_accepted, FirstOf, beginnings, step_from, is_first}
 use Rattle.history.proofs.Lists.{first_still}
 

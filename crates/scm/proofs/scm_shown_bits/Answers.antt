@@ -1,5 +1,4 @@
 -- `scm_shown_bits` meets its contract: the callee is handed the offset as its bits.
-use borrow.Author.Rules.{rules}
 use mir.Facts.{to_z-of_z}
 use Rattle.scm.proofs.scm_shown_bits.Goals as goal
 
