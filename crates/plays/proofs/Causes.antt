@@ -1,12 +1,11 @@
 -- A call takes the master out of a playback exactly where it is accepted and 01 names a cause, in the words of what is seen.
 use mathlib.Core.Path.{◌≡◌, refl, sym, ap, ◌∙◌, subst}
-use mathlib.Core.Bool.{Bool, true, false, not}
+use mathlib.Core.Bool.{Bool, true}
 use mathlib.Core.Logic.{◌↔◌, ◌⊎◌, inl, inr}
 use mathlib.Core.List.{List}
 use Prim.Native.Nat.{ℕ}
 use native.Mathlib.Omega.{arith}
 use borrow.Author.Tests.{eq-eqb, eqb-true, eqb-false}
-use lib.Dec.{eqb}
 use lib.ListN.{length}
 use Rattle.octets.specs.Pick.{pick}
 use Rattle.sequence.specs.Sequence.{length_of}
@@ -24,7 +23,7 @@ use Rattle.master.specs.Playback.{abort_call, client_abort_call}
 use Rattle.replay.specs.Run.{going, aborted, step_of, Going, sent_at}
 use Rattle.replay.specs.Run as replay
 use Rattle.replay.proofs.Why as why
-use Rattle.events.specs.Events.{Event, abort, report, lost, indication, client_abort, tick, answer, call_of, apply, run_from}
+use Rattle.events.specs.Events.{Event, abort, report, lost, indication, client_abort, tick, call_of, apply, run_from}
 use Rattle.events.proofs.Outside as outside
 use Rattle.events.proofs.Calls.{after_is}
 use Rattle.events.proofs.Choices.{either, is_true}

@@ -19,14 +19,13 @@ use Rattle.playback.specs.Answer.{is_error, is_all_done}
 use Rattle.master.specs.declared.Master.{Master}
 use Rattle.master.specs.States as states
 use Rattle.master.specs.Messages.{is_answer, reply_in}
-use Rattle.master.specs.Recording.{heard}
 use Rattle.replay.specs.Run.{going, step_of, sent_at}
 use Rattle.replay.specs.Run as replay
 use Rattle.replay.proofs.Follows as follows
 use Rattle.replay.proofs.Follows.{Good, verdict, answer_state, answer_shape, matched, keeps_answer}
 use Rattle.replay.proofs.Answers.{matching, marked_here, marked_other, same_sent}
 use Rattle.replay.proofs.Done.{each_done, all_done_is}
-use Rattle.events.specs.Events.{Event, abort, answer, apply, run_from}
+use Rattle.events.specs.Events.{Event, answer, apply, run_from}
 use Rattle.events.proofs.Choices.{either}
 use Rattle.plays.specs.Plays.{Started, Playing, Lasts, HasLeft, IsOf, Finishing, Failing, SaidDone}
 use Rattle.plays.specs.Ends.{Cause, answers_error, is_last}

@@ -2,8 +2,7 @@
 use mathlib.Core.Path.{sym, ◌∙◌}
 use Rattle.printed.proofs.Outcome.{settled}
 use Rattle.bound.specs.Exported.{Determined}
-use Rattle.bound.proofs.determined.Statement.{statement}
-use Rattle.bound.proofs.determined.Tie as tie
+use Rattle.bound.proofs.determined.Goals as goal
 
 determined : Determined
 determined =
@@ -14,8 +13,5 @@ determined =
           rw (e.0, e.1);
     }
 
-returns : tie.Need-returns
+pub returns : goal.returns
 returns c = determined
-
-pub determined_spec : {M : Type 1} → statement M
-determined_spec = tie.close (tie.spec returns)

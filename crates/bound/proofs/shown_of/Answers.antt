@@ -1,0 +1,7 @@
+-- `shown_of` meets its contract: the callee is handed the offset as its bits.
+use mir.Facts.{to_z-of_z}
+use mathlib.Core.Path.{refl}
+use Rattle.bound.proofs.shown_of.Goals as goal
+
+pub returns : goal.returns
+returns c = (rw (to_z-of_z c.ranges.offset) at c.scm_shown_of.ensures.value, refl)

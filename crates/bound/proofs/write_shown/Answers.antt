@@ -1,0 +1,6 @@
+-- `write_shown` meets its contract: the callee is handed the offset as its bits.
+use mir.Facts.{to_z-of_z}
+use Rattle.bound.proofs.write_shown.Goals as goal
+
+pub returns : goal.returns
+returns c = rw (to_z-of_z c.ranges.offset) at c.scm_write_shown.ensures
