@@ -1,5 +1,4 @@
 -- How late a step can come, from when it leaves exactly.
-use Prim.Native.Nat.{◌-◌}
 use native.Mathlib.Omega.{arith}
 use Rattle.plays.specs.Promises as plays
 use Rattle.promises.specs.HowLate.{HowLate}
