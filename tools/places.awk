@@ -41,7 +41,7 @@ function place_of(text,    file, name, i) {
         return text
     }
     sub(/\.antt$/, "", text)
-    sub(/\/(Proof|Answers|Invariants)$/, "", text)
+    if (text ~ /^proofs\/.*\//) sub(/\/(Proof|Answers|Invariants)$/, "", text)
     sub(/^proofs\//, "", text)
     return text
 }

@@ -1,11 +1,12 @@
 // Reads a pool from standard input to its end, and writes the verdict on it as a line.
 #![tactic(auto)]
 
-ghost use Rattle.std.specs.Prelude.{◌≡◌, ◌<◌};
+ghost use Rattle.std.specs.Prelude.{◌≡◌, ◌<◌, ◌≤◌, IfOk, length};
 ghost use Rattle.poolcheck.specs.Line.{digit_of, line_of};
 
-use libc::{STDIN_FILENO, STDOUT_FILENO};
 use pool::Verdict;
+use std::io;
+use std::io::{Read, Write};
 
 fn digit(n: u8) -> u8
     requires { n < 16 }
@@ -31,26 +32,40 @@ fn line(v: Verdict) -> [u8; 8]
     ]
 }
 
-// Takes in what is left of the input, so that whoever writes it is not cut off.
-fn drain() {
-    let mut buffer = io::large_buffer();
-    let mut turns: u64 = 18446744073709551615;
-    while 0 < turns {
-        if io::read_full(STDIN_FILENO, &mut buffer) < 65536 {
-            return;
+// Reads until the buffer is full or the input ends, and gives how many bytes it put at the buffer's start.
+fn read_full<R: Read>(input: &mut R, buffer: &mut [u8]) -> io::Result<usize>
+    ensures { IfOk result (λ n. n ≤ length buffer.new) }
+{
+    let mut done = 0;
+    while done < buffer.len() {
+        let n = input.read(&mut buffer[done..])?;
+        if n == 0 {
+            break;
         }
-        turns -= 1;
+        done += n;
     }
+    Ok(done)
+}
+
+// Takes in what is left of the input, so that whoever writes it is not cut off.
+fn drain<R: Read>(input: &mut R) -> io::Result<()> {
+    let mut buffer = [0; 65536];
+    for _ in 0..u64::MAX {
+        if read_full(input, &mut buffer)? < 65536 {
+            break;
+        }
+    }
+    Ok(())
 }
 
 // A pool that fills the buffer is longer than any that is taken, so its verdict does not depend on what follows.
-fn main() {
-    let mut buffer = io::large_buffer();
-    let n = io::read_full(STDIN_FILENO, &mut buffer);
+fn main(rt: HostRuntime) -> io::Result<()> {
+    let mut input = rt.reader();
+    let mut buffer = [0; 65536];
+    let n = read_full(&mut input, &mut buffer)?;
     let verdict = pool::check(&buffer[..n]);
     if n == 65536 {
-        drain();
+        drain(&mut input)?;
     }
-    let text = line(verdict);
-    io::write_all(STDOUT_FILENO, &text);
+    io::writer(&rt).write_all(&line(verdict))
 }
