@@ -2,11 +2,12 @@
 # A place is sought in the file as it is, so that edits which would meet each other's text can be made together.
 #
 #   awk -v folder=FOLDER -v task=plan  -f tools/edits.awk EDIT..     prints the runs in which to try the edits, a line for each: 'bodies' and those tried
-#       together, which change what only the proofs of the functions that they name see, or 'whole' and one of which that is not known
+#       together, which change what only the proofs of the functions that they name see, or 'whole' and others, each of which names a place that no other of
+#       them names; PLACES in the environment has the places that edits name, a line 'EDIT PLACE' for each
 #   awk -v folder=FOLDER -v task=alter -f tools/edits.awk EDIT..     makes them all; status 3 where one does not fit
 #   awk -v folder=FOLDER -v task=unfit -f tools/edits.awk EDIT..     prints those that do not fit
 FNR == 1 { edits[++count] = FILENAME; file = "" }
-/^fails: / { fails[FILENAME] = substr($0, 8) }
+/^fails: / { fails[FILENAME] = ++failing[FILENAME] == 1 ? substr($0, 8) : "" }
 /^file: / { file = substr($0, 7) }
 /^old: / { old = substr($0, 6) }
 /^new:/ { note(FILENAME, file, old, substr($0, 6)); old = "" }
@@ -36,7 +37,7 @@ function note(edit, file, old, new,    text, at, function_) {
         return
     }
     changes++
-    of[changes] = file; start[changes] = at; size[changes] = length(old); becomes[changes] = new
+    of[changes] = file; start[changes] = at; size[changes] = length(old); becomes[changes] = new; by[changes] = edit
     function_ = file ~ /^src\// ? body_around(file, text, at) : ""
     if (!(edit in changed)) changed[edit] = function_
     else if (changed[edit] != function_) changed[edit] = ""
@@ -60,20 +61,50 @@ function body_around(file, text, at,    lines, last, head, i, indent, inside) {
 }
 
 # A function's body is seen by its own proof alone: others see its contract. So edits of bodies of different functions, each of which is to fail at its
-# own function, cannot be taken for one another, and are tried together. Any other edit is tried alone.
+# own function, cannot be taken for one another, and are tried together. So are other edits, which name every place at which they are refused, where each
+# has a place of its own. One that does not fit is tried alone.
 function plan(    i, edit, own, round, rounds, runs) {
+    named()
     for (i = 1; i <= count; i++) {
         edit = edits[i]
         own = changed[edit]
-        if (edit in unfit || own == "" || !is_of(fails[edit], own)) {
+        if (edit in unfit) {
             print "whole " edit
+            continue
+        }
+        if (own == "" || !is_of(fails[edit], own)) {
+            for (round = 1; !stands_apart(edit, together[round]); round++) ;
+            together[round] = together[round] " " edit
             continue
         }
         round = ++seen[own]
         if (round > rounds) rounds = round
-        runs[round] = runs[round] (runs[round] == "" ? "" : " ") edit
+        runs[round] = runs[round] " " edit
     }
-    for (round = 1; round <= rounds; round++) print "bodies " runs[round]
+    for (round = 1; round <= rounds; round++) print "bodies" runs[round]
+    for (round = 1; round in together && together[round] != ""; round++) print "whole" together[round]
+}
+
+function named(    lines, i, at, edit) {
+    for (i = split(ENVIRON["PLACES"], lines, "\n"); i; i--) {
+        at = index(lines[i], " ")
+        edit = substr(lines[i], 1, at - 1)
+        places[edit] = places[edit] substr(lines[i], at + 1) "\n"
+    }
+}
+
+# Whether an edit and others, which stand apart already, all keep a place that none of the rest names, and it changes no text that they change.
+function stands_apart(edit, others,    all, lines, times, count_, i, j, own) {
+    count_ = split(others " " edit, all, " ")
+    for (i = 1; i <= count_; i++) for (j = split(places[all[i]], lines, "\n"); j; j--) times[lines[j]]++
+    for (i = 1; i <= count_ && count_ > 1; i++) {
+        own = 0
+        for (j = split(places[all[i]], lines, "\n"); j; j--) if (lines[j] != "" && times[lines[j]] == 1) own = 1
+        if (!own) return 0
+    }
+    for (i = 1; i <= changes; i++) for (j = 1; j <= changes; j++)
+        if (by[i] == edit && index(others " ", " " by[j] " ") && of[i] == of[j] && start[i] < start[j] + size[j] && start[j] < start[i] + size[i]) return 0
+    return 1
 }
 
 # Whether a place is that of a function: 'src/lib.rt name', or 'proofs/../name' where its proof has a file.
