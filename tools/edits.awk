@@ -28,7 +28,8 @@ function text_of(file,    path, line) {
     return texts[file]
 }
 
-# One change of an edit: which text of the file, where, and what for it. Of all changes of an edit, the one function in whose body they stand.
+# One change of an edit: which text of the file, where, and what for it. Of all changes of an edit, the one function in whose body they stand; what its
+# own proof calls the changed test goes with it.
 function note(edit, file, old, new,    text, at, function_) {
     text = text_of(file)
     at = index(text, old)
@@ -38,9 +39,15 @@ function note(edit, file, old, new,    text, at, function_) {
     }
     changes++
     of[changes] = file; start[changes] = at; size[changes] = length(old); becomes[changes] = new; by[changes] = edit
+    if (file ~ /^proofs\/.*\/(Answers|Invariants|Proof)\.antt$/ && (edit in changed) && is_of(folder_of(file), changed[edit])) return
     function_ = file ~ /^src\// ? body_around(file, text, at) : ""
     if (!(edit in changed)) changed[edit] = function_
     else if (changed[edit] != function_) changed[edit] = ""
+}
+
+function folder_of(file) {
+    sub(/\/[^\/]*$/, "", file)
+    return file
 }
 
 # The function in whose body a place stands, as 'src/lib.rt:7 name', and nothing where it stands in none: in a contract, a type, a constant. As rt fmt
