@@ -19,9 +19,9 @@ task == "said" && /^(\.\/)?(src|specs|proofs)\/[^:]*:[0-9]+:[0-9]+: error/ {
     sub(/^[^:]*:[0-9]+:[0-9]+: error/, "", words)
     text = words
     gsub(/`[^`]*`/, "", text)
-    rests = text ~ /declarations? that depends? on .*not checked/
-    missing = rests || text ~ /is not in scope|has no field|is no name|can be named from here|was not admitted|which was rejected, was not checked/ || words ~ /has no `/
-    unreadable = words !~ /^: `[^`]*`: / && !rests || text ~ /is not in scope|has no field|is no name|operand is missing|expected the end|cannot continue/
+    if (text ~ /declarations? that depends? on .*not checked/) next
+    missing = text ~ /is not in scope|has no field|is no name|can be named from here|was not admitted/ || words ~ /has no `/
+    unreadable = words !~ /^: `[^`]*`: / || text ~ /is not in scope|has no field|is no name|operand is missing|expected the end|cannot continue/
     if ((at[1] !~ /^proofs\// || index(" " edited " ", " " at[1] " ")) && unreadable) tell("unread " $0)
     else if (!missing) tell("place " (at[1] ~ /^src\// ? function_at(at[1], at[2]) : place_of(at[1])))
 }
