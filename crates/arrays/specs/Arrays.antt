@@ -1,10 +1,10 @@
 -- Lists as the first cells of an array: looking for an element, keeping some of them, filling up with blank ones.
-use Rattle.std.specs.Prelude.{ℕ, zero, suc, ◌+◌, min, Bool, false, ◌||◌, cond, List, [], ◌∷◌}
+use Rattle.std.specs.Prelude.{ℕ, zero, suc, ◌+◌, min, Bool, cond, List, [], ◌∷◌}
+use Rattle.std.specs.List.{list_any}
 
 -- some element passes the test
 abbrev pub some : {X : Type 0} → (X → Bool) → List X → Bool
-some p [] = false
-some p (x ∷ xs) = p x || some p xs
+some p xs = list_any p xs
 
 -- of elements numbered from i on, the number of the first that passes the test, and `none` where no element does
 abbrev pub first_from : {X : Type 0} → ℕ → (X → Bool) → ℕ → List X → ℕ

@@ -175,12 +175,5 @@ impl Client {
 pub fn some_slot(slots: [Client; SLOTS], test: Test) -> bool
     ensures { result ≡ some (passes test) slots }
 {
-    let mut i: usize = 0;
-    while i < SLOTS {
-        if slots[i].passes(test) {
-            return true;
-        }
-        i += 1;
-    }
-    false
+    slots.iter().any(|slot| slot.passes(test))
 }

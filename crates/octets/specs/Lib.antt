@@ -3,3 +3,4 @@ pub mod Numbers
 pub mod Octets
 pub mod Bits
 pub mod Label
+pub mod Refusals
