@@ -138,11 +138,7 @@ pub fn put_bytes(out: &mut [u8], i: usize, bytes: &[u8])
     requires { i + length bytes.now ≤ length out.old }
     ensures { out.new ≡ sets out.old i bytes.now }
 {
-    let mut k: usize = 0;
-    while k < bytes.len() {
-        out[i + k] = bytes[k];
-        k += 1;
-    }
+    out[i..i + bytes.len()].copy_from_slice(bytes);
 }
 
 pub fn has_bit(x: u64, k: u64) -> bool
