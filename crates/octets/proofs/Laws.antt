@@ -6,8 +6,9 @@ use native.Mathlib.Numerals.{add-one}
 use native.Mathlib.Omega.{arith}
 use mathlib.Core.Path.{◌≡◌, refl, sym, ap, subst, ◌∙◌}
 use mathlib.Core.List.{List, [], ◌∷◌, ◌++◌}
-use lib.ListN.{length, get_or, take, drop, set, length-set, drop_of_length-le}
-use lib.Seq.{sets, set_out, drop-cons, drop-drop, drop_at, get_or-drop}
+use lib.ListN.{length, get_or, take, drop, set, replicate, length-set, length-take, get_or-eq_default}
+use lib.Seq.{sets, set_out, drop-cons, drop-drop, drop_at, get_or-drop, get_or-take}
+use Rattle.std.specs.Int.{w64, from_le_bytes}
 use Rattle.octets.specs.Octets.{number_at, bytes_of}
 
 -- every element is a byte, as in a slice of bytes
@@ -76,6 +77,77 @@ number_of_bytes (suc w) v s i rest e h =
     let d : drop (i + 1) s ≡ bytes_of w (v / 256) ++ rest = past s i 1 (x ∷ []) (bytes_of w (v / 256) ++ rest) refl e in
     omega (arith, here s i x (bytes_of w (v / 256) ++ rest) e, number_of_bytes w (v / 256) s (i + 1) rest d f, mod-add-div v 256)
 
+-- ---- a number as one of more bytes
+
+-- a place and the places after it
+place : (l : List ℕ) (i : ℕ) → get_or l i 0 ≡ get_or l (i + 0) 0
+place l i = ap (λ (j : ℕ). get_or l j 0) (sym (add-zero i))
+
+place_after : (l : List ℕ) (i k : ℕ) → get_or l (i + 1 + k) 0 ≡ get_or l (i + suc k) 0
+place_after l i k =
+    let e : i + 1 + k ≡ i + suc k = omega arith in
+    ap (λ (j : ℕ). get_or l j 0) e
+
+-- the bytes that it has more are 0
+number_more :
+    (v w : ℕ) (t s : List ℕ) (j i : ℕ) →
+    w ≤ v →
+    ((k : ℕ) → k < w → get_or t (j + k) 0 ≡ get_or s (i + k) 0) →
+    ((k : ℕ) → w ≤ k → get_or t (j + k) 0 ≡ 0) →
+    number_at v t j ≡ number_at w s i
+unfolding number_at
+number_more zero zero t s j i h same none = refl
+number_more zero (suc w) t s j i h same none = absurd (omega arith)
+number_more (suc v) zero t s j i h same none =
+    let rest : number_at v t (j + 1) ≡ 0 = number_more v zero t s (j + 1) i (omega arith) (λ k l. absurd (omega arith)) (λ k l. place_after t j k ∙ none (suc k) (omega arith)) in
+    omega (arith, place t j, none 0 (omega arith))
+number_more (suc v) (suc w) t s j i h same none =
+    let rest : number_at v t (j + 1) ≡ number_at w s (i + 1) =
+    number_more v w t s (j + 1) (i + 1) (omega arith) (λ k l. place_after t j k ∙ same (suc k) (omega arith) ∙ sym (place_after s i k)) (λ k l. place_after t j k ∙ none (suc k) (omega arith)) in
+    omega (arith, place t j, place s i, same 0 (omega arith))
+
+-- a part of a list, and 0 past it
+pub number_of_part : (v w : ℕ) (s : List ℕ) (i : ℕ) → w ≤ v → number_at v (take w (drop i s)) 0 ≡ number_at w s i
+number_of_part v w s i h = number_more v w t s 0 i h within past_it
+  where
+    t : List ℕ
+    t = take w (drop i s)
+
+    from_first : (k : ℕ) → get_or t (0 + k) 0 ≡ get_or t k 0
+    from_first k = ap (λ (j : ℕ). get_or t j 0) (zero-add k)
+
+    within : (k : ℕ) → k < w → get_or t (0 + k) 0 ≡ get_or s (i + k) 0
+    within k l = from_first k ∙ get_or-take w (drop i s) k 0 l ∙ get_or-drop i s k 0
+
+    past_it : (k : ℕ) → w ≤ k → get_or t (0 + k) 0 ≡ 0
+    past_it k l = from_first k ∙ get_or-eq_default t 0 (omega (arith, length-take w (drop i s)))
+
+-- filled up with 0
+zeros : (n k : ℕ) → get_or (replicate {A = ℕ} n 0) k 0 ≡ 0
+zeros zero k = refl
+zeros (suc n) zero = refl
+zeros (suc n) (suc k) = zeros n k
+
+filled_up : (bytes : List ℕ) (n k : ℕ) → get_or (bytes ++ replicate n 0) k 0 ≡ get_or bytes k 0
+filled_up [] n k = zeros n k
+filled_up (b ∷ bytes) n zero = refl
+filled_up (b ∷ bytes) n (suc k) = filled_up bytes n k
+
+number_filled_up : (w : ℕ) (bytes : List ℕ) (n i : ℕ) → number_at w (bytes ++ replicate n 0) i ≡ number_at w bytes i
+unfolding number_at
+number_filled_up zero bytes n i = refl
+number_filled_up (suc w) bytes n i =
+    omega (arith, filled_up bytes n i, number_filled_up w bytes n (i + 1))
+
+-- eight bytes, as the library reads them
+of_eight : (bytes : List ℕ) → from_le_bytes w64 bytes ≡ number_at 8 bytes 0
+unfolding number_at
+of_eight bytes = omega arith
+
+-- the number of a list's bytes, of which there are at most eight
+pub number_of_list : (bytes : List ℕ) (n : ℕ) → from_le_bytes w64 (bytes ++ replicate n 0) ≡ number_at 8 bytes 0
+number_of_list bytes n = of_eight (bytes ++ replicate n 0) ∙ number_filled_up 8 bytes n 0
+
 -- ---- stores, one after the other
 
 -- two lists, the second where the first ends
@@ -121,18 +193,3 @@ module _ (out : List ℕ) (i : ℕ) where
   put_end w k v h =
       let e : w - k ≡ 0 = omega arith in
       ap (λ (n : ℕ). sets out (i + k) (bytes_of n v)) e
-
--- the bytes of a list, from its byte k on
-module _ (out : List ℕ) (i : ℕ) (bytes : List ℕ) where
-  pub stored_start : sets out i bytes ≡ sets out (i + 0) (drop 0 bytes)
-  stored_start = ap (λ (j : ℕ). sets out j bytes) (sym (add-zero i))
-
-  pub stored_step : (k : ℕ) → k < length bytes → sets out (i + k) (drop k bytes) ≡ sets (set out (i + k) (get_or bytes k 0)) (i + (k + 1)) (drop (k + 1) bytes)
-  stored_step k h =
-      let e : suc (i + k) ≡ i + (k + 1) = omega arith in
-      ap (sets out (i + k)) (drop-cons bytes k 0 h)
-      ∙ ap (λ (j : ℕ). sets (set out (i + k) (get_or bytes k 0)) j (drop (suc k) bytes)) e
-      ∙ ap (λ (n : ℕ). sets (set out (i + k) (get_or bytes k 0)) (i + (k + 1)) (drop n bytes)) (sym (add-one k))
-
-  pub stored_end : (k : ℕ) → length bytes ≤ k → sets out (i + k) (drop k bytes) ≡ out
-  stored_end k h = ap (sets out (i + k)) (drop_of_length-le bytes h)

@@ -2,7 +2,7 @@
 ghost use Rattle.std.specs.Prelude.{◌≡◌, ◌+◌, ◌≤◌, ◌^◌, min};
 ghost use Rattle.octets.specs.Label.{blank, label_at};
 
-use crate::byte_at;
+use crate::part;
 
 #[repr(C)]
 #[derive(Clone, Copy, PartialEq, Eq)]
@@ -21,27 +21,17 @@ pub fn blank() -> Label
     }
 }
 
-fn capped(n: u8) -> u8
-    ensures { result ≡ min n 63 }
-{
-    if n < 63 { n } else { 63 }
-}
-
 // The label of n bytes that starts at place i; of more than 63 the first 63.
 pub fn label_at(s: &[u8], i: usize, n: u8) -> Label
     requires { i + 63 ≤ 2 ^ 32 }
     ensures { result ≡ label_at s.now i n }
 {
-    let count = capped(n);
+    let count = n.min(63);
     let mut bytes = [0u8; 63];
-    let mut k: u8 = 0;
-    while k < count {
-        let at = k as usize;
-        bytes[at] = byte_at(s, i + at);
-        k += 1;
-    }
+    let named = part(s, i, count as usize);
+    bytes[..named.len()].copy_from_slice(named);
     Label {
         length: count,
-        bytes: bytes,
+        bytes,
     }
 }

@@ -3,7 +3,7 @@
 // has, and one of `put_bytes`, and makes no test.
 #![tactic(auto)]
 
-ghost use Rattle.std.specs.Prelude.{◌≡◌, ◌+◌, ◌≤◌, ◌<◌, ◌^◌, length, get_or, set};
+ghost use Rattle.std.specs.Prelude.{◌≡◌, ◌+◌, ◌≤◌, ◌<◌, ◌^◌, length, get_or, set, take, drop};
 ghost use Rattle.std.proofs.lemmas.List.Edits.{sets};
 ghost use Rattle.octets.specs.Octets.{number_at, bytes_of};
 ghost use Rattle.octets.specs.Bits.{has_bit, with_bit};
@@ -17,65 +17,86 @@ pub fn byte_at(s: &[u8], i: usize) -> u8
     if i < s.len() { s[i] } else { 0 }
 }
 
+// The bytes from place i on, of more than n the first n.
+pub fn part(s: &[u8], i: usize, n: usize) -> &[u8]
+    ensures { result.now ≡ take n (drop i s.now) }
+{
+    let rest = &s[i.min(s.len())..];
+    &rest[..n.min(rest.len())]
+}
+
+// The number that some bytes are.
+fn number_of(bytes: &[u8]) -> u64
+    requires { length bytes.now ≤ 8 }
+    ensures { result ≡ number_at 8 bytes.now 0 }
+{
+    let mut all = [0u8; 8];
+    all[..bytes.len()].copy_from_slice(bytes);
+    u64::from_le_bytes(all)
+}
+
+// The number of W bytes at a place.
+fn number_in<const W: usize>(s: &[u8], i: usize) -> u64
+    requires width { W ≤ 8 }
+    requires within { i + W ≤ length s.now }
+    ensures value { result ≡ number_at W s.now i }
+    ensures fits { result < 256 ^ W }
+{
+    number_of(&s[i..i + W])
+}
+
+fn number_at<const W: usize>(s: &[u8], i: usize) -> u64
+    requires width { W ≤ 8 }
+    requires place { i + W ≤ 2 ^ 32 }
+    ensures value { result ≡ number_at W s.now i }
+    ensures fits { result < 256 ^ W }
+{
+    if i + W <= s.len() {
+        return number_in::<W>(s, i);
+    }
+    number_of(part(s, i, W))
+}
+
 pub fn u16_in(s: &[u8], i: usize) -> u16
     requires { i + 2 ≤ length s.now }
     ensures { result ≡ number_at 2 s.now i }
 {
-    let low = s[i] as u16;
-    let high = s[i + 1] as u16;
-    low + 256 * high
+    number_in::<2>(s, i) as u16
 }
 
 pub fn u32_in(s: &[u8], i: usize) -> u32
     requires { i + 4 ≤ length s.now }
     ensures { result ≡ number_at 4 s.now i }
 {
-    let low = u16_in(s, i) as u32;
-    let high = u16_in(s, i + 2) as u32;
-    low + 65536 * high
+    number_in::<4>(s, i) as u32
 }
 
 pub fn u64_in(s: &[u8], i: usize) -> u64
     requires { i + 8 ≤ length s.now }
     ensures { result ≡ number_at 8 s.now i }
 {
-    let low = u32_in(s, i) as u64;
-    let high = u32_in(s, i + 4) as u64;
-    low + 4294967296 * high
+    number_in::<8>(s, i)
 }
 
 pub fn u16_at(s: &[u8], i: usize) -> u16
     requires { i + 2 ≤ 2 ^ 32 }
     ensures { result ≡ number_at 2 s.now i }
 {
-    if i + 2 <= s.len() {
-        return u16_in(s, i);
-    }
-    byte_at(s, i) as u16
+    number_at::<2>(s, i) as u16
 }
 
 pub fn u32_at(s: &[u8], i: usize) -> u32
     requires { i + 4 ≤ 2 ^ 32 }
     ensures { result ≡ number_at 4 s.now i }
 {
-    if i + 4 <= s.len() {
-        return u32_in(s, i);
-    }
-    let low = u16_at(s, i) as u32;
-    let high = u16_at(s, i + 2) as u32;
-    low + 65536 * high
+    number_at::<4>(s, i) as u32
 }
 
 pub fn u64_at(s: &[u8], i: usize) -> u64
     requires { i + 8 ≤ 2 ^ 32 }
     ensures { result ≡ number_at 8 s.now i }
 {
-    if i + 8 <= s.len() {
-        return u64_in(s, i);
-    }
-    let low = u32_at(s, i) as u64;
-    let high = u32_at(s, i + 4) as u64;
-    low + 4294967296 * high
+    number_at::<8>(s, i)
 }
 
 pub fn put_byte(out: &mut [u8], i: usize, b: u8)
@@ -92,11 +113,9 @@ fn put_in(out: &mut [u8], i: usize, width: usize, v: u64)
     ensures { out.new ≡ sets out.old i (bytes_of width v) }
 {
     let mut rest = v;
-    let mut k: usize = 0;
-    while k < width {
+    for k in 0..width {
         out[i + k] = (rest % 256) as u8;
-        rest = rest / 256;
-        k += 1;
+        rest /= 256;
     }
 }
 
