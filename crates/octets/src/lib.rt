@@ -45,6 +45,18 @@ fn number_in<const W: usize>(s: &[u8], i: usize) -> u64
     number_of(&s[i..i + W])
 }
 
+// The number of some bytes at a place, 0 for those past the end.
+#[cold]
+#[inline(never)]
+fn number_near_end(s: &[u8], i: usize, width: usize) -> u64
+    requires { width ≤ 8 }
+    ensures value { result ≡ number_at width s.now i }
+    ensures fits { result < 256 ^ width }
+{
+    number_of(part(s, i, width))
+}
+
+// The same where bytes may be past the end.
 fn number_at<const W: usize>(s: &[u8], i: usize) -> u64
     requires width { W ≤ 8 }
     requires place { i + W ≤ 2 ^ 32 }
@@ -54,7 +66,7 @@ fn number_at<const W: usize>(s: &[u8], i: usize) -> u64
     if i + W <= s.len() {
         return number_in::<W>(s, i);
     }
-    number_of(part(s, i, W))
+    number_near_end(s, i, W)
 }
 
 pub fn u16_in(s: &[u8], i: usize) -> u16
