@@ -8,15 +8,12 @@ ghost use Rattle.arrays.specs.Arrays.{more};
 pub fn at_most(n: usize, room: usize) -> usize
     ensures { result ≡ min n room }
 {
-    if n < room { n } else { room }
+    n.min(room)
 }
 
 // A sum, or the largest number that there is room for.
 pub fn more(a: u32, b: u32) -> u32
     ensures { result ≡ more a b }
 {
-    if a <= 4294967295 - b {
-        return a + b;
-    }
-    4294967295
+    a.saturating_add(b)
 }
