@@ -1,7 +1,8 @@
 -- `arrays::more` meets its contract: the library's sum is the definition's.
+use Rattle.std.proofs.Common.{rules}
 use Rattle.arrays.specs.Arrays.{more}
 use Rattle.arrays.proofs.more.Goals as goal
 
 pub returns : goal.returns
 unfolding more
-returns c = c.saturating_add.ensures
+returns c = search rules
