@@ -2,18 +2,20 @@
 use mathlib.Core.Path.{◌≡◌, refl, sym, ap, ◌∙◌}
 use mathlib.Core.Bool.{Bool, true, false}
 use mathlib.Core.List.{List, [], ◌∷◌, ◌++◌}
-use Prim.Native.Nat.{ℕ, suc, ◌+◌, ◌-◌, ◌≤◌, ◌<◌}
+use Prim.Native.Nat.{ℕ, suc, ◌+◌, ◌-◌, ◌≤◌, ◌<◌, min}
 use native.Mathlib.Nat.{add-zero, zero-add}
 use native.Mathlib.Numerals.{add-one}
 use native.Mathlib.Omega.{arith}
 use lib.Dec.{ltb, eqb}
-use lib.ListN.{length, get_or, take, drop, set, length-take, take-append-drop}
-use lib.Seq.{sets, drop-drop, drop_at, get_or-take}
+use lib.ListN.{length, get_or, take, drop, set, replicate, length-take, take-append-drop}
+use lib.Seq.{sets, drop-drop, drop_at, get_or-take, take-append-add}
+use Rattle.std.proofs.lemmas.List.{drop-replicate, take-replicate}
 use borrow.Author.Tests.{lt-ltb, le-ltb, eqb-true}
 use Rattle.octets.specs.Pick.{pick}
 use Rattle.octets.specs.Label.{row_of}
 use Rattle.octets.specs.declared.label.Label.{Label}
 use Rattle.octets.proofs.Cells.{length_cells, next_in}
+use Rattle.message.specs.Fields.{padded}
 use Rattle.message.specs.Messages.{octet_of}
 use Rattle.message.specs.declared.forms.Form.{Form}
 
@@ -62,12 +64,23 @@ short n s vs is = omega (arith, length-take n s, ap length is)
 -- ---- what is copied are the bytes that the definition puts there
 
 module _ (f : Form) (l : Label) (pool : List ℕ) where
-  pub first_belongs : (n : ℕ) (vs : List ℕ) → vs ≡ take n (take f.first f.bytes) → Belongs (octet_of f l pool) 0 vs
+  pub first_belongs : (n : ℕ) (vs : List ℕ) → vs ≡ take (min f.first n) f.bytes → Belongs (octet_of f l pool) 0 vs
   unfolding pick octet_of
   first_belongs n vs is k h =
-      let m = among n (take f.first f.bytes) k (rw is at h) in
-      let o = among f.first f.bytes k m.1 in
-      ap (λ (s : List ℕ). get_or s k 0) is ∙ m.2 ∙ o.2 ∙ rw (zero-add k, lt-ltb k f.first o.0)
+      let o = among (min f.first n) f.bytes k (rw is at h) in
+      ap (λ (s : List ℕ). get_or s k 0) is ∙ o.2 ∙ rw (zero-add k, lt-ltb k f.first (omega arith))
+
+  -- the first bytes are laid
+  module _ (out first : List ℕ) (is : first ≡ take (min f.first f.length) f.bytes) where
+    pub first_fits : length first ≤ f.length
+    first_fits =
+        let h = short (min f.first f.length) f.bytes first is in
+        omega arith
+
+    pub first_laid : (out' : List ℕ) → f.length ≤ length out → out' ≡ sets out 0 first → out' ≡ row_of (length first) (octet_of f l pool) ++ drop (length first) out
+    first_laid out' room e =
+        let h = first_fits in
+        e ∙ filled out (octet_of f l pool) 0 first (omega arith) refl (first_belongs f.length first is) ∙ rw (zero-add (length first))
 
   abbrev body : List ℕ
   body = pick (eqb f.label 0) (take f.pool pool) (take f.label l.bytes)
@@ -108,3 +121,15 @@ module _ (f : Form) (l : Label) (pool : List ℕ) where
           let m = among n body k (rw is at h) in
           ap (λ (s : List ℕ). get_or s k 0) is ∙ m.2 ∙ after_first k m.1 ∙ rw (eqb-true i f.first e)
       go false e is k h = let m = among n [] k (rw is at h) in omega arith
+
+-- ---- reserved bytes
+
+-- reserved bytes, the first ones overwritten
+pub padding : (n : ℕ) (s : List ℕ) → length s ≤ n → s ++ drop (length s) (replicate n 0xFF) ≡ padded n s
+padding n s h =
+    let e : n ≡ length s + (n - length s) = omega arith in
+    let left : n - length s ≤ n = omega arith in
+    drop_left ∙ sym (ap (λ (m : ℕ). take m (s ++ replicate n 0xFF)) e ∙ take-append-add s (replicate n 0xFF) (n - length s) ∙ ap (λ (l : List ℕ). s ++ l) (take-replicate (n - length s) n 0xFF left))
+  where
+    drop_left : s ++ drop (length s) (replicate n 0xFF) ≡ s ++ replicate (n - length s) 0xFF
+    drop_left = ap (λ (l : List ℕ). s ++ l) (drop-replicate {X = ℕ} (length s) n 0xFF)

@@ -14,7 +14,7 @@ use Rattle.message.specs.Layout.{form_of, client_rows, master_rows, from_client,
 use Rattle.message.specs.Messages.{read_of}
 use Rattle.message.specs.Promises.{client_takes, master_takes, Refuses}
 use Rattle.message.specs.declared.forms.Form.{Form}
-use Rattle.message.specs.declared.Reading.{Reading}
+use Rattle.message.specs.Messages.{Reading}
 use Rattle.message.specs.declared.Message.{Message}
 use Rattle.message.specs.declared.Message.TheVariants.{Nothing}
 

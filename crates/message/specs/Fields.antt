@@ -1,7 +1,8 @@
 -- Codes and bits of the messages.
-use Rattle.std.specs.Prelude.{ℕ, ◌+◌, ◌-◌, ◌*◌, ◌/◌, ◌%◌, Bool, ◌||◌, List, [], ◌∷◌, ◌++◌, leb, eqb, get_or, take, replicate}
+use Rattle.std.specs.Prelude.{ℕ, ◌+◌, ◌-◌, ◌*◌, ◌/◌, ◌%◌, Bool, ◌||◌, cond, Result, Ok, Err, List, [], ◌∷◌, ◌++◌, leb, eqb, get_or, take, replicate}
 use Rattle.octets.specs.{Octets.number_at, Pick.pick}
 use Rattle.message.specs.declared.Status.{Status}
+use Rattle.message.specs.declared.NoStatus.{NoStatus}
 use Rattle.message.specs.declared.Status.TheVariants.{AtOnce, Started, Done, Failed}
 
 -- byte k of a message, and the number of w bytes that starts there; the annexes count from 1
@@ -36,6 +37,10 @@ status_rows = (status_number AtOnce, AtOnce) ∷ (status_number Started, Started
 
 unfoldable pub status_from : ℕ → Status
 status_from number = entry number status_rows Failed
+
+-- the status that has a number, where one has it
+abbrev pub status_numbered : ℕ → Result Status NoStatus
+status_numbered number = cond (leb number (status_number Failed)) (Ok (status_from number)) (Err (record { 0 = number }))
 
 abbrev pub status_of : ℕ → Status
 status_of octet = status_from (octet / 64)

@@ -1,10 +1,22 @@
 -- A message is read, and written.
-use Rattle.std.specs.Prelude.{ℕ, ◌-◌, ◌%◌, ◌&&◌, List, ◌++◌, ltb, eqb, length, get_or, drop}
+use Rattle.std.specs.Prelude.{ℕ, ◌-◌, ◌%◌, ◌&&◌, Result, Ok, Err, List, ◌++◌, ltb, eqb, length, get_or, drop}
 use Rattle.octets.specs.{Pick.pick, declared.label.Label.Label}
 use Rattle.octets.specs.Numbers.{completed, too_short, wrong_value}
+use Rattle.octets.specs.{Refusals.refusal_number, declared.numbers.Refusal.Refusal}
 use Rattle.octets.specs.Label.{blank, row_of, label_at}
-use Rattle.message.specs.{Fields.byte, Layout.form_of, Layout.layout_of, declared.forms.Form.Form, declared.Reading.Reading, declared.Written.Written}
+use Rattle.message.specs.{Fields.byte, Layout.form_of, Layout.layout_of, declared.forms.Form.Form, declared.Said.Said, declared.Written.Written}
 use Rattle.message.specs.{declared.Message.Message, declared.Message.TheVariants.Nothing}
+
+-- what bytes say: a number, and where it is 0 a message with its label
+pub record Reading : Type 0 where
+  pub number : ℕ
+  pub message : Message
+  pub label : Label
+
+-- a refusal with its number, no message and no label
+abbrev pub reading : Result Said Refusal → Reading
+reading (Ok said) = record { number = completed; message = said.message; label = said.label }
+reading (Err why) = record { number = refusal_number why; message = Nothing; label = blank }
 
 -- "4 message of wrong length, code unknown for its direction or call, a reserved code or other value its field does not allow"
 abbrev pub judged_by : List ℕ → Message → Form → Reading
@@ -28,6 +40,11 @@ octet_of f l pool i =
     pick (ltb i f.first) (get_or f.bytes i 0)
     (pick (ltb j f.label) (get_or l.bytes j 0)
     (pick (ltb j f.pool) (get_or pool j 0) 0xFF))
+
+-- a length, or a refusal with its number
+abbrev pub written : Result ℕ Refusal → Written
+written (Ok length) = record { number = completed; length = length }
+written (Err why) = record { number = refusal_number why; length = 0 }
 
 abbrev pub laid : Form → Label → List ℕ → List ℕ
 laid f l pool = row_of f.length (octet_of f l pool)

@@ -5,7 +5,7 @@ use Rattle.message.specs.Fields.{byte, number, entry, known}
 use Rattle.message.specs.Layout.{form_of, client_side, master_side}
 use Rattle.message.specs.Clauses.{BothWays}
 use Rattle.message.specs.Messages.{read_of, pool_of, written_of, written_over}
-use Rattle.message.specs.{declared.Reading.Reading, declared.Status.TheVariants.Started, declared.Status.TheVariants.Done}
+use Rattle.message.specs.{Messages.Reading, declared.Status.TheVariants.Started, declared.Status.TheVariants.Done}
 use Rattle.message.specs.declared.Message.{Message}
 use Rattle.message.specs.declared.Message.TheVariants.{Nothing, CapabilityRequest, CapabilityResponse, MemoryRequest, MemoryResponse, VersionRequest, VersionResponse, ConfigurationRequest, ConfigurationResponse, Transfer, TransferResponse, ActivationCommand, PoolAcknowledgement, DeleteCommand, DeleteResponse, StoreCommand, StoreResponse, LoadCommand, LoadResponse, StateCommand, ClientAbort, Indication, IndicationResponse, Command, Answer, AnswerAcknowledgement}
 

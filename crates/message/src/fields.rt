@@ -1,8 +1,15 @@
 // Codes and bits.
 ghost use Rattle.std.specs.Prelude.{◌≡◌};
-ghost use Rattle.message.specs.Fields.{known, status_from, status_of, status_number, packed};
+ghost use Rattle.message.specs.Fields.{known, status_of, status_number, packed};
 
 use crate::Status;
+
+// Whether a code of a field whose codes are 00 to last, and FF, is not a reserved one.
+pub fn known(last: u8, code: u8) -> bool
+    ensures { result ≡ known last code }
+{
+    (code <= last) | (code == 0xFF)
+}
 
 // D.9: whether the code is not a reserved one.
 pub fn is_pool_code(code: u8) -> bool
@@ -15,39 +22,23 @@ pub fn is_pool_code(code: u8) -> bool
     }
 }
 
-// Of two bits. A number above 11 is no status: who takes one from outside refuses it first (`flat`).
-pub fn status_from(number: u8) -> Status
-    ensures { result ≡ status_from number }
+// The number of a status, for the crates above.
+pub fn status_number(status: Status) -> u8
+    ensures { result ≡ status_number status }
 {
-    match number {
-        0b00 => Status::AtOnce,
-        0b01 => Status::Started,
-        0b10 => Status::Done,
-        0b11..=255 => Status::Failed,
-    }
+    status.number()
 }
 
 // The status in bits 7 and 8 of a byte.
 pub fn status_of(octet: u8) -> Status
     ensures { result ≡ status_of octet }
 {
-    status_from(octet / 64)
-}
-
-pub fn status_number(status: Status) -> u8
-    ensures { result ≡ status_number status }
-{
-    match status {
-        Status::AtOnce => 0b00,
-        Status::Started => 0b01,
-        Status::Done => 0b10,
-        Status::Failed => 0b11,
-    }
+    Status::try_from(octet / 64).unwrap_or(Status::Failed)
 }
 
 // A byte with the state in bits 1 to 6 and the status in bits 7 and 8.
 pub fn packed(state: u8, status: Status) -> u8
     ensures { result ≡ packed state status }
 {
-    state % 64 + 64 * status_number(status)
+    state % 64 + 64 * status.number()
 }

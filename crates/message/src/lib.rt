@@ -1,16 +1,17 @@
 // Messages C.2 to C.5, D.2 to D.15 and E.2 to E.8 of ISO 11783-14: read, by the side that sent them, and written.
 #![tactic(auto)]
 
-ghost use Rattle.std.specs.Prelude.{◌≡◌, [], ◌-◌, length};
+ghost use Rattle.std.specs.Prelude.{◌≡◌, ◌≤◌, [], length};
 ghost use Rattle.octets.specs.Label.{blank};
-ghost use Rattle.message.specs.Messages.{read_of, pool_of, written_of, written_over};
+ghost use Rattle.message.specs.Fields.{status_number, status_numbered};
+ghost use Rattle.message.specs.Messages.{reading, written, read_of, pool_of, written_of, written_over};
 ghost use Rattle.message.specs.Clauses.{Clauses};
 ghost use Rattle.message.specs.Promises.{ComesBack, Refuses, MessageCases};
 ghost use Rattle.message.specs.declared.Message.TheVariants.{Transfer};
 
-use octets::byte_at;
 use octets::label::{Label, blank, label_at};
-use octets::numbers::{DONE, WRONG_VALUE};
+use octets::numbers::{DONE, Refusal};
+use octets::{byte_at, part};
 
 pub mod fields;
 pub mod forms;
@@ -22,12 +23,41 @@ pub const CLIENT: u32 = 0;
 pub const MASTER: u32 = 1;
 
 // The execution status of E.4, E.5, E.7 and E.8: bits 7 and 8 of byte 3.
-#[derive(Clone, Copy)]
+#[derive(Clone, Copy, Debug, PartialEq, Eq)]
 pub enum Status {
-    AtOnce,
-    Started,
-    Done,
-    Failed,
+    AtOnce = 0b00,
+    Started = 0b01,
+    Done = 0b10,
+    Failed = 0b11,
+}
+
+// A number that no status has.
+#[derive(Clone, Copy, Debug, PartialEq, Eq)]
+pub struct NoStatus(pub u8);
+
+impl Status {
+    pub fn number(self) -> u8
+        ensures value { result ≡ status_number self }
+        ensures two_bits { result ≤ 3 }
+    {
+        self as u8
+    }
+}
+
+impl TryFrom<u8> for Status {
+    type Error = NoStatus;
+
+    ghost try_from_gives = { λ number r. r ≡ status_numbered number };
+
+    fn try_from(number: u8) -> Result<Self, NoStatus> {
+        match number {
+            0b00 => Ok(Status::AtOnce),
+            0b01 => Ok(Status::Started),
+            0b10 => Ok(Status::Done),
+            0b11 => Ok(Status::Failed),
+            _ => Err(NoStatus(number)),
+        }
+    }
 }
 
 // C.3. The last four are the font's.
@@ -139,10 +169,9 @@ pub enum Message {
     AnswerAcknowledgement(Receipt),
 }
 
-// Where number is not 0, message is Nothing and label is blank.
+// What bytes say: a message, with its label.
 #[derive(Clone, Copy)]
-pub struct Reading {
-    pub number: u8,
+pub struct Said {
     pub message: Message,
     pub label: Label,
 }
@@ -155,41 +184,47 @@ pub struct Written {
     pub length: usize,
 }
 
-// The bytes after the code, in a message of n.
-fn pool_length(n: usize) -> usize
-    ensures { result ≡ n - 1 }
-{
-    if n == 0 { 0 } else { n - 1 }
+impl From<Result<usize, Refusal>> for Written {
+    ghost from_gives = { λ laid r. r ≡ written laid };
+
+    fn from(laid: Result<usize, Refusal>) -> Written {
+        match laid {
+            Ok(length) => Written {
+                number: DONE,
+                length,
+            },
+            Err(why) => Written {
+                number: why.number(),
+                length: 0,
+            },
+        }
+    }
 }
 
 // What bytes that a side sent say.
-pub fn read(side: u32, bytes: &[u8]) -> Reading
-    ensures { result ≡ read_of side bytes.now }
+pub fn read(side: u32, bytes: &[u8]) -> Result<Said, Refusal>
+    ensures { reading result ≡ read_of side bytes.now }
 {
     let message = layout::layout_of(side, bytes);
-    let form = forms::form_of(message, byte_at(bytes, 2) % 64, pool_length(bytes.len()));
+    let form = forms::form_of(
+        message,
+        byte_at(bytes, 2) % 64,
+        bytes.len().saturating_sub(1),
+    );
     if (form.length == bytes.len()) & form.allowed {
-        return Reading {
-            number: DONE,
-            message: message,
+        return Ok(Said {
+            message,
             label: label_at(bytes, 3, form.label),
-        };
+        });
     }
-    Reading {
-        number: WRONG_VALUE,
-        message: Message::Nothing,
-        label: blank(),
-    }
+    Err(Refusal::WrongValue)
 }
 
 // The pool that a transfer, D.6, brings.
 pub fn pool_of(bytes: &[u8]) -> &[u8]
     ensures { result.now ≡ pool_of bytes.now }
 {
-    if bytes.len() == 0 {
-        return bytes;
-    }
-    &bytes[1..]
+    part(bytes, 1, bytes.len())
 }
 
 // Lays a message, and the label beside it, in a slice. A transfer is laid by write_transfer.
@@ -198,7 +233,7 @@ pub fn write(message: Message, label: Label, out: &mut [u8]) -> Written
     ensures out_after { out.new ≡ written_over message label [] out.old }
 {
     let form = forms::form_of(message, label.length, 0);
-    forms::lay(form, label, b"", out)
+    Written::from(forms::lay(&form, &label, b"", out))
 }
 
 // Lays a transfer, D.6, with its pool in a slice.
@@ -207,7 +242,7 @@ pub fn write_transfer(pool: &[u8], out: &mut [u8]) -> Written
     ensures out_after { out.new ≡ written_over Transfer blank pool.now out.old }
 {
     let form = forms::form_of(Message::Transfer, 0, pool.len());
-    forms::lay(form, blank(), pool, out)
+    Written::from(forms::lay(&form, &blank(), pool, out))
 }
 
 // What holds of the definitions that the contracts above cite.

@@ -8,7 +8,7 @@ use mathlib.Core.Path.{◌≡◌, refl, sym, ap, subst, ◌∙◌}
 use mathlib.Core.List.{List, [], ◌∷◌, ◌++◌}
 use lib.ListN.{length, get_or, take, drop, set, replicate, length-set, length-take, get_or-eq_default}
 use lib.Seq.{sets, set_out, drop-cons, drop-drop, drop_at, get_or-drop, get_or-take}
-use Rattle.std.specs.Int.{w64, from_le_bytes}
+use Rattle.std.specs.Int.{w16, w32, w64, from_le_bytes, to_le_bytes}
 use Rattle.octets.specs.Octets.{number_at, bytes_of}
 
 -- every element is a byte, as in a slice of bytes
@@ -76,6 +76,18 @@ number_of_bytes (suc w) v s i rest e h =
     let f : v / 256 < 256 ^ w = (div-lt_iff_lt-mul (zero-lt-suc 255)).1 (subst (λ (n : ℕ). v < n) (pow-suc 256 w) h) in
     let d : drop (i + 1) s ≡ bytes_of w (v / 256) ++ rest = past s i 1 (x ∷ []) (bytes_of w (v / 256) ++ rest) refl e in
     omega (arith, here s i x (bytes_of w (v / 256) ++ rest) e, number_of_bytes w (v / 256) s (i + 1) rest d f, mod-add-div v 256)
+
+-- the bytes that the library makes
+pub bytes_of_two : (v : ℕ) → bytes_of 2 v ≡ to_le_bytes w16 v
+unfolding bytes_of
+bytes_of_two v = refl
+
+pub bytes_of_four : (v : ℕ) → bytes_of 4 v ≡ to_le_bytes w32 v
+unfolding bytes_of
+bytes_of_four v =
+    let third : v / 256 / 256 ≡ v / 65536 = omega arith in
+    let fourth : v / 65536 / 256 ≡ v / 16777216 = omega arith in
+    rw (third, fourth)
 
 -- ---- a number as one of more bytes
 

@@ -1,7 +1,7 @@
--- `message::forms::capability` meets its contract: bytes 5 and 6 are the number's.
-use Rattle.octets.specs.Octets as octets
+-- `message::forms::capability` meets its contract: the library's two bytes are the definition's.
+use mathlib.Core.Path.{◌∙◌}
+use Rattle.octets.proofs.Laws.{bytes_of_two}
 use Rattle.message.proofs.forms.capability.Goals as goal
 
 pub returns : goal.returns
-unfolding octets.bytes_of
-returns c = c.sized.ensures
+returns c = rw (bytes_of_two c.args.c.characters) (c.sized.ensures ∙ rw c.to_le_bytes.ensures)
