@@ -4,7 +4,7 @@ use Rattle.std.specs.Prelude.{ℕ, ◌≡◌, List, [], ◌∷◌, leb}
 use Rattle.octets.specs.{Pick.pick, Label.blank, declared.label.Label.Label}
 use Rattle.message.specs.Fields.{entry, status_number, status_from}
 use Rattle.message.specs.{Messages.read_of, declared.Capability.Capability, declared.Execution.Execution, declared.Reply.Reply, declared.Order.Order}
-use Rattle.message.specs.{declared.Receipt.Receipt, declared.Reading.Reading, declared.Status.TheVariants.Failed, declared.Message.Message}
+use Rattle.message.specs.{declared.Receipt.Receipt, Messages.Reading, declared.Status.TheVariants.Failed, declared.Message.Message}
 use Rattle.message.specs.declared.Message.TheVariants.{Nothing, CapabilityRequest, CapabilityResponse, MemoryRequest, MemoryResponse, VersionRequest, VersionResponse, ConfigurationRequest, ConfigurationResponse, Transfer, TransferResponse, ActivationCommand, PoolAcknowledgement, DeleteCommand, DeleteResponse, StoreCommand, StoreResponse, LoadCommand, LoadResponse, StateCommand, ClientAbort, Indication, IndicationResponse, Command, Answer, AnswerAcknowledgement}
 use Rattle.flat.specs.{declared.MessageStep.MessageStep, declared.Flat.Flat, declared.FlatReading.FlatReading}
 
@@ -93,6 +93,9 @@ execution_from x = record { function = x.function; state = x.state; status = sta
 abbrev pub reply_from : MessageStep → Reply
 reply_from x = record { function = x.function; state = x.state; status = status_from x.status; error = x.error; tan = x.tan }
 
+abbrev pub order_from : MessageStep → Order
+order_from x = record { function = x.function; state = x.state; tan = x.tan; value = x.value }
+
 abbrev pub receipt_from : MessageStep → Receipt
 receipt_from x = record { function = x.function; state = x.state; status = status_from x.status; tan = x.tan }
 
@@ -128,7 +131,7 @@ kind_rows f =
     ∷ row (ClientAbort f.code)
     ∷ stated_row x (Indication (execution_from x))
     ∷ stated_row x (IndicationResponse (reply_from x))
-    ∷ row (Command (record { function = x.function; state = x.state; tan = x.tan; value = x.value }))
+    ∷ row (Command (order_from x))
     ∷ stated_row x (Answer (reply_from x))
     ∷ stated_row x (AnswerAcknowledgement (receipt_from x))
     ∷ []

@@ -3,18 +3,19 @@
 
 ghost use Rattle.std.specs.Prelude.{◌≡◌, [], length};
 ghost use Rattle.message.specs.Messages.{written_of, written_over};
-ghost use Rattle.flat.specs.Flat.{kind_of, bare_flat, execution_step, reply_step, order_step, receipt_step, flat_of, stated, execution_from, reply_from, receipt_from, message_from, reading_of, BackAgain};
+ghost use Rattle.flat.specs.Flat.{kind_of, bare_flat, execution_step, reply_step, order_step, receipt_step, flat_of, stated, execution_from, reply_from, order_from, receipt_from, message_from, reading_of, BackAgain};
 ghost use Rattle.flat.specs.ReadBack.{ReadBack};
 
-use message::fields::{status_from, status_number};
-use message::{Capability, Execution, Message, Order, Receipt, Reply, Written};
-use octets::label::Label;
+use message::fields::status_from;
+use message::{Capability, Execution, Message, Order, Receipt, Reply, Said, Status, Written};
+use octets::label::{Label, blank};
+use octets::numbers::DONE;
 
 pub mod kinds;
 
 // E.4 to E.8. A message that lacks one of the fields has 0 there, and it is not looked at.
 #[repr(C)]
-#[derive(Clone, Copy)]
+#[derive(Clone, Copy, Default)]
 pub struct MessageStep {
     pub function: u8,
     pub state: u8,
@@ -89,223 +90,245 @@ fn kind_of(message: Message) -> u8
 fn bare_flat(kind: u8, label: Label) -> Flat
     ensures { result ≡ bare_flat kind label }
 {
-    let capability = Capability {
-        version: 0,
-        width: 0,
-        height: 0,
-        characters: 0,
-        colour: 0,
-        size: 0,
-        font: 0,
-        style: 0,
-    };
-    let step = MessageStep {
-        function: 0,
-        state: 0,
-        status: 0,
-        error: 0,
-        tan: 0,
-        value: 0,
-    };
     Flat {
         kind,
         code: 0,
         reason: 0,
         object: 0,
         memory: 0,
-        capability,
-        step,
+        capability: Capability::default(),
+        step: MessageStep::default(),
         label,
     }
 }
 
+// ---- from a message
+
 // E.4.
-fn execution_step(e: Execution) -> MessageStep
-    ensures { result ≡ execution_step e }
-{
-    let status = e.status;
-    MessageStep {
-        function: e.function,
-        state: e.state,
-        status: status_number(status),
-        error: 0,
-        tan: e.tan,
-        value: e.value,
+impl From<Execution> for MessageStep {
+    ghost from_gives = { λ e x. x ≡ execution_step e };
+
+    fn from(e: Execution) -> MessageStep {
+        MessageStep {
+            function: e.function,
+            state: e.state,
+            status: e.status.number(),
+            error: 0,
+            tan: e.tan,
+            value: e.value,
+        }
     }
 }
 
 // E.5 and E.7.
-fn reply_step(r: Reply) -> MessageStep
-    ensures { result ≡ reply_step r }
-{
-    let status = r.status;
-    MessageStep {
-        function: r.function,
-        state: r.state,
-        status: status_number(status),
-        error: r.error,
-        tan: r.tan,
-        value: 0,
+impl From<Reply> for MessageStep {
+    ghost from_gives = { λ r x. x ≡ reply_step r };
+
+    fn from(r: Reply) -> MessageStep {
+        MessageStep {
+            function: r.function,
+            state: r.state,
+            status: r.status.number(),
+            error: r.error,
+            tan: r.tan,
+            value: 0,
+        }
     }
 }
 
 // E.6.
-fn order_step(o: Order) -> MessageStep
-    ensures { result ≡ order_step o }
-{
-    MessageStep {
-        function: o.function,
-        state: o.state,
-        status: 0,
-        error: 0,
-        tan: o.tan,
-        value: o.value,
+impl From<Order> for MessageStep {
+    ghost from_gives = { λ o x. x ≡ order_step o };
+
+    fn from(o: Order) -> MessageStep {
+        MessageStep {
+            function: o.function,
+            state: o.state,
+            status: 0,
+            error: 0,
+            tan: o.tan,
+            value: o.value,
+        }
     }
 }
 
 // E.8.
-fn receipt_step(r: Receipt) -> MessageStep
-    ensures { result ≡ receipt_step r }
-{
-    let status = r.status;
-    MessageStep {
-        function: r.function,
-        state: r.state,
-        status: status_number(status),
-        error: 0,
-        tan: r.tan,
-        value: 0,
+impl From<Receipt> for MessageStep {
+    ghost from_gives = { λ r x. x ≡ receipt_step r };
+
+    fn from(r: Receipt) -> MessageStep {
+        MessageStep {
+            function: r.function,
+            state: r.state,
+            status: r.status.number(),
+            error: 0,
+            tan: r.tan,
+            value: 0,
+        }
     }
 }
 
-pub fn flat_of(message: Message, label: Label) -> Flat
-    ensures { result ≡ flat_of message label }
-{
-    let mut flat = bare_flat(kind_of(message), label);
-    match message {
-        Message::Nothing => {}
-        Message::CapabilityRequest(version) => flat.code = version,
-        Message::CapabilityResponse(c) => flat.capability = c,
-        Message::MemoryRequest(memory) => flat.memory = memory,
-        Message::MemoryResponse(status) => flat.code = status,
-        Message::VersionRequest => {}
-        Message::VersionResponse(error) => flat.code = error,
-        Message::ConfigurationRequest => {}
-        Message::ConfigurationResponse(error) => flat.code = error,
-        Message::Transfer => {}
-        Message::TransferResponse(error) => flat.code = error,
-        Message::ActivationCommand => {}
-        Message::PoolAcknowledgement(code, object) => {
-            flat.code = code;
-            flat.object = object;
+impl From<Said> for Flat {
+    ghost from_gives = { λ said flat. flat ≡ flat_of said.message said.label };
+
+    fn from(said: Said) -> Flat {
+        let mut flat = bare_flat(kind_of(said.message), said.label);
+        match said.message {
+            Message::CapabilityRequest(code)
+            | Message::MemoryResponse(code)
+            | Message::VersionResponse(code)
+            | Message::ConfigurationResponse(code)
+            | Message::TransferResponse(code)
+            | Message::DeleteCommand(code)
+            | Message::DeleteResponse(code)
+            | Message::StoreResponse(code)
+            | Message::LoadResponse(code)
+            | Message::ClientAbort(code) => flat.code = code,
+            Message::CapabilityResponse(capability) => flat.capability = capability,
+            Message::MemoryRequest(memory) => flat.memory = memory,
+            Message::PoolAcknowledgement(code, object) => {
+                flat.code = code;
+                flat.object = object;
+            }
+            Message::StateCommand(state, reason) => {
+                flat.code = state;
+                flat.reason = reason;
+            }
+            Message::Indication(e) => flat.step = MessageStep::from(e),
+            Message::IndicationResponse(r) | Message::Answer(r) => flat.step = MessageStep::from(r),
+            Message::Command(o) => flat.step = MessageStep::from(o),
+            Message::AnswerAcknowledgement(r) => flat.step = MessageStep::from(r),
+            Message::Nothing
+            | Message::VersionRequest
+            | Message::ConfigurationRequest
+            | Message::Transfer
+            | Message::ActivationCommand
+            | Message::StoreCommand
+            | Message::LoadCommand => {}
         }
-        Message::DeleteCommand(memory) => flat.code = memory,
-        Message::DeleteResponse(error) => flat.code = error,
-        Message::StoreCommand => {}
-        Message::StoreResponse(error) => flat.code = error,
-        Message::LoadCommand => {}
-        Message::LoadResponse(error) => flat.code = error,
-        Message::StateCommand(state, reason) => {
-            flat.code = state;
-            flat.reason = reason;
-        }
-        Message::ClientAbort(error) => flat.code = error,
-        Message::Indication(e) => flat.step = execution_step(e),
-        Message::IndicationResponse(r) => flat.step = reply_step(r),
-        Message::Command(o) => flat.step = order_step(o),
-        Message::Answer(r) => flat.step = reply_step(r),
-        Message::AnswerAcknowledgement(r) => flat.step = receipt_step(r),
+        flat
     }
-    flat
 }
 
-// None where the status is other than 00, 01, 10 and 11.
+// ---- to a message
+
+// None where no status has the number.
 fn stated(status: u8, message: Message) -> Message
     ensures { result ≡ stated status message }
 {
-    if status <= 0b11 {
-        message
-    } else {
-        Message::Nothing
+    match Status::try_from(status) {
+        Ok(_) => message,
+        Err(_) => Message::Nothing,
     }
 }
 
+impl From<MessageStep> for Execution {
+    ghost from_gives = { λ x e. e ≡ execution_from x };
+
+    fn from(x: MessageStep) -> Execution {
+        Execution {
+            function: x.function,
+            state: x.state,
+            status: status_from(x.status),
+            tan: x.tan,
+            value: x.value,
+        }
+    }
+}
+
+impl From<MessageStep> for Reply {
+    ghost from_gives = { λ x r. r ≡ reply_from x };
+
+    fn from(x: MessageStep) -> Reply {
+        Reply {
+            function: x.function,
+            state: x.state,
+            status: status_from(x.status),
+            error: x.error,
+            tan: x.tan,
+        }
+    }
+}
+
+impl From<MessageStep> for Order {
+    ghost from_gives = { λ x o. o ≡ order_from x };
+
+    fn from(x: MessageStep) -> Order {
+        Order {
+            function: x.function,
+            state: x.state,
+            tan: x.tan,
+            value: x.value,
+        }
+    }
+}
+
+impl From<MessageStep> for Receipt {
+    ghost from_gives = { λ x r. r ≡ receipt_from x };
+
+    fn from(x: MessageStep) -> Receipt {
+        Receipt {
+            function: x.function,
+            state: x.state,
+            status: status_from(x.status),
+            tan: x.tan,
+        }
+    }
+}
+
+// For the crate above.
 pub fn execution_from(x: MessageStep) -> Execution
     ensures { result ≡ execution_from x }
 {
-    Execution {
-        function: x.function,
-        state: x.state,
-        status: status_from(x.status),
-        tan: x.tan,
-        value: x.value,
-    }
+    Execution::from(x)
 }
 
 pub fn reply_from(x: MessageStep) -> Reply
     ensures { result ≡ reply_from x }
 {
-    Reply {
-        function: x.function,
-        state: x.state,
-        status: status_from(x.status),
-        error: x.error,
-        tan: x.tan,
-    }
+    Reply::from(x)
 }
 
-fn receipt_from(x: MessageStep) -> Receipt
-    ensures { result ≡ receipt_from x }
-{
-    Receipt {
-        function: x.function,
-        state: x.state,
-        status: status_from(x.status),
-        tan: x.tan,
-    }
-}
+impl From<Flat> for Message {
+    ghost from_gives = { λ flat message. message ≡ message_from flat };
 
-pub fn message_from(flat: Flat) -> Message
-    ensures { result ≡ message_from flat }
-{
-    let kind = flat.kind;
-    let capability = flat.capability;
-    let x = flat.step;
-    match kind {
-        kinds::CAPABILITY_REQUEST => Message::CapabilityRequest(flat.code),
-        kinds::CAPABILITY_RESPONSE => Message::CapabilityResponse(capability),
-        kinds::MEMORY_REQUEST => Message::MemoryRequest(flat.memory),
-        kinds::MEMORY_RESPONSE => Message::MemoryResponse(flat.code),
-        kinds::VERSION_REQUEST => Message::VersionRequest,
-        kinds::VERSION_RESPONSE => Message::VersionResponse(flat.code),
-        kinds::CONFIGURATION_REQUEST => Message::ConfigurationRequest,
-        kinds::CONFIGURATION_RESPONSE => Message::ConfigurationResponse(flat.code),
-        kinds::TRANSFER => Message::Transfer,
-        kinds::TRANSFER_RESPONSE => Message::TransferResponse(flat.code),
-        kinds::ACTIVATION_COMMAND => Message::ActivationCommand,
-        kinds::POOL_ACKNOWLEDGEMENT => Message::PoolAcknowledgement(flat.code, flat.object),
-        kinds::DELETE_COMMAND => Message::DeleteCommand(flat.code),
-        kinds::DELETE_RESPONSE => Message::DeleteResponse(flat.code),
-        kinds::STORE_COMMAND => Message::StoreCommand,
-        kinds::STORE_RESPONSE => Message::StoreResponse(flat.code),
-        kinds::LOAD_COMMAND => Message::LoadCommand,
-        kinds::LOAD_RESPONSE => Message::LoadResponse(flat.code),
-        kinds::STATE_COMMAND => Message::StateCommand(flat.code, flat.reason),
-        kinds::CLIENT_ABORT => Message::ClientAbort(flat.code),
-        kinds::INDICATION => stated(x.status, Message::Indication(execution_from(x))),
-        kinds::INDICATION_RESPONSE => stated(x.status, Message::IndicationResponse(reply_from(x))),
-        kinds::COMMAND => Message::Command(Order {
-            function: x.function,
-            state: x.state,
-            tan: x.tan,
-            value: x.value,
-        }),
-        kinds::ANSWER => stated(x.status, Message::Answer(reply_from(x))),
-        kinds::ANSWER_ACKNOWLEDGEMENT => stated(
-            x.status,
-            Message::AnswerAcknowledgement(receipt_from(x)),
-        ),
-        kinds::NOTHING | 26..=255 => Message::Nothing,
+    #[tactic(auto, unfolding(crate::specs::Flat::message_from, octets::specs::Pick::pick))]
+    fn from(flat: Flat) -> Message {
+        let x = flat.step;
+        match flat.kind {
+            kinds::CAPABILITY_REQUEST => Message::CapabilityRequest(flat.code),
+            kinds::CAPABILITY_RESPONSE => Message::CapabilityResponse(flat.capability),
+            kinds::MEMORY_REQUEST => Message::MemoryRequest(flat.memory),
+            kinds::MEMORY_RESPONSE => Message::MemoryResponse(flat.code),
+            kinds::VERSION_REQUEST => Message::VersionRequest,
+            kinds::VERSION_RESPONSE => Message::VersionResponse(flat.code),
+            kinds::CONFIGURATION_REQUEST => Message::ConfigurationRequest,
+            kinds::CONFIGURATION_RESPONSE => Message::ConfigurationResponse(flat.code),
+            kinds::TRANSFER => Message::Transfer,
+            kinds::TRANSFER_RESPONSE => Message::TransferResponse(flat.code),
+            kinds::ACTIVATION_COMMAND => Message::ActivationCommand,
+            kinds::POOL_ACKNOWLEDGEMENT => Message::PoolAcknowledgement(flat.code, flat.object),
+            kinds::DELETE_COMMAND => Message::DeleteCommand(flat.code),
+            kinds::DELETE_RESPONSE => Message::DeleteResponse(flat.code),
+            kinds::STORE_COMMAND => Message::StoreCommand,
+            kinds::STORE_RESPONSE => Message::StoreResponse(flat.code),
+            kinds::LOAD_COMMAND => Message::LoadCommand,
+            kinds::LOAD_RESPONSE => Message::LoadResponse(flat.code),
+            kinds::STATE_COMMAND => Message::StateCommand(flat.code, flat.reason),
+            kinds::CLIENT_ABORT => Message::ClientAbort(flat.code),
+            kinds::INDICATION => stated(x.status, Message::Indication(Execution::from(x))),
+            kinds::INDICATION_RESPONSE => stated(
+                x.status,
+                Message::IndicationResponse(Reply::from(x)),
+            ),
+            kinds::COMMAND => Message::Command(Order::from(x)),
+            kinds::ANSWER => stated(x.status, Message::Answer(Reply::from(x))),
+            kinds::ANSWER_ACKNOWLEDGEMENT => stated(
+                x.status,
+                Message::AnswerAcknowledgement(Receipt::from(x)),
+            ),
+            kinds::NOTHING | 26..=255 => Message::Nothing,
+        }
     }
 }
 
@@ -313,12 +336,15 @@ pub fn message_from(flat: Flat) -> Message
 pub fn read(side: u32, bytes: &[u8]) -> FlatReading
     ensures { result ≡ reading_of side bytes.now }
 {
-    let reading = message::read(side, bytes);
-    let said = reading.message;
-    let label = reading.label;
-    FlatReading {
-        number: reading.number,
-        message: flat_of(said, label),
+    match message::read(side, bytes) {
+        Ok(said) => FlatReading {
+            number: DONE,
+            message: Flat::from(said),
+        },
+        Err(why) => FlatReading {
+            number: why.number(),
+            message: bare_flat(kinds::NOTHING, blank()),
+        },
     }
 }
 
@@ -327,8 +353,7 @@ pub fn write(flat: Flat, out: &mut [u8]) -> Written
     ensures value { result ≡ written_of (message_from flat) flat.label [] (length out.old) }
     ensures out_after { out.new ≡ written_over (message_from flat) flat.label [] out.old }
 {
-    let label = flat.label;
-    message::write(message_from(flat), label, out)
+    message::write(Message::from(flat), flat.label, out)
 }
 
 // What holds of the definitions that the contracts above cite.

@@ -1,6 +1,6 @@
 // Codes and bits.
 ghost use Rattle.std.specs.Prelude.{◌≡◌};
-ghost use Rattle.message.specs.Fields.{known, status_of, status_number, packed};
+ghost use Rattle.message.specs.Fields.{known, status_from, status_of, status_number, packed};
 
 use crate::Status;
 
@@ -29,11 +29,18 @@ pub fn status_number(status: Status) -> u8
     status.number()
 }
 
+// Of two bits. A number above 11 is no status: who takes one from outside refuses it first (`flat`).
+pub fn status_from(number: u8) -> Status
+    ensures { result ≡ status_from number }
+{
+    Status::try_from(number).unwrap_or(Status::Failed)
+}
+
 // The status in bits 7 and 8 of a byte.
 pub fn status_of(octet: u8) -> Status
     ensures { result ≡ status_of octet }
 {
-    Status::try_from(octet / 64).unwrap_or(Status::Failed)
+    status_from(octet / 64)
 }
 
 // A byte with the state in bits 1 to 6 and the status in bits 7 and 8.

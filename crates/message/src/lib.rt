@@ -62,7 +62,7 @@ impl TryFrom<u8> for Status {
 
 // C.3. The last four are the font's.
 #[repr(C)]
-#[derive(Clone, Copy)]
+#[derive(Clone, Copy, Default)]
 pub struct Capability {
     pub version: u8,
     pub width: u8,
