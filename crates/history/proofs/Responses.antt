@@ -14,7 +14,7 @@ use Rattle.message.specs.Fields.{byte, entry, known}
 use Rattle.message.specs.Layout.{client_rows, from_client, layout_of}
 use Rattle.message.specs.Messages.{read_of, octet_of, left_as}
 use Rattle.message.specs.declared.Execution.{Execution}
-use Rattle.message.specs.declared.Reading.{Reading}
+use Rattle.message.specs.Messages.{Reading}
 use Rattle.message.specs.declared.Message.{Message}
 use Rattle.message.specs.declared.Message.TheVariants.{Nothing}
 use Rattle.flat.specs.Flat.{flat_of, reading_of}

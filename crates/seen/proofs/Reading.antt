@@ -20,7 +20,7 @@ use Rattle.message.specs.declared.Status.{Status}
 use Rattle.message.specs.declared.Status.TheVariants.{Failed}
 use Rattle.message.specs.declared.Message.{Message}
 use Rattle.message.specs.declared.Message.TheVariants.{Nothing}
-use Rattle.message.specs.declared.Reading.{Reading}
+use Rattle.message.specs.Messages.{Reading}
 use Rattle.flat.specs.Flat.{flat_of, execution_step, reply_step, execution_from, reply_from, reading_of}
 use Rattle.flat.specs.declared.MessageStep.{MessageStep}
 use Rattle.master.specs.Messages.{kind_in, execution_in, reply_in, is_indication, is_answer}
