@@ -44,6 +44,7 @@ pub fn status_of(octet: u8) -> Status
 }
 
 // A byte with the state in bits 1 to 6 and the status in bits 7 and 8.
+#[tactic(auto, unfolding(crate::specs::Fields::packed))]
 pub fn packed(state: u8, status: Status) -> u8
     ensures { result ≡ packed state status }
 {

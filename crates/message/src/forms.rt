@@ -193,6 +193,7 @@ pub fn form_of(message: Message, n: u8, p: usize) -> Form
 }
 
 // Byte i of a message, counted from 0, with a label and a pool beside it.
+#[tactic(auto, unfolding(crate::specs::Messages::octet_of, octets::specs::Pick::pick))]
 fn octet_of(form: &Form, label: &Label, pool: &[u8], i: usize) -> u8
     ensures { result ≡ octet_of form.now label.now pool.now i }
 {
@@ -210,6 +211,7 @@ fn octet_of(form: &Form, label: &Label, pool: &[u8], i: usize) -> u8
 }
 
 // The label of a message, or its pool where it has no label, if that starts at place i; else nothing.
+#[tactic(auto, unfolding(octets::specs::Pick::pick))]
 fn body_at<'a>(form: &Form, i: usize, label: &'a Label, pool: &'a [u8]) -> &'a [u8]
     ensures { result.now ≡ pick (eqb i form.now.first) (pick (eqb form.now.label 0) (take form.now.pool pool.now) (take form.now.label label.now.bytes)) [] }
 {
@@ -249,6 +251,7 @@ fn lay_bytes(form: &Form, label: &Label, pool: &[u8], out: &mut [u8])
 }
 
 // Lays a message in a slice, and says how long it is.
+#[tactic(auto, unfolding(crate::specs::Messages::written_as, crate::specs::Messages::left_as, octets::specs::Pick::pick))]
 pub fn lay(form: &Form, label: &Label, pool: &[u8], out: &mut [u8]) -> Result<usize, Refusal>
     ensures value { written result ≡ written_as form.now (length out.old) }
     ensures out_after { out.new ≡ left_as form.now label.now pool.now out.old }

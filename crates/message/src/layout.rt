@@ -72,6 +72,7 @@ fn as_receipt(s: &[u8]) -> Receipt
     }
 }
 
+#[tactic(auto, unfolding(crate::specs::Layout::from_client, octets::specs::Pick::pick))]
 fn from_client(code: u8, s: &[u8]) -> Message
     ensures { result ≡ from_client code s.now }
 {
@@ -92,6 +93,7 @@ fn from_client(code: u8, s: &[u8]) -> Message
     }
 }
 
+#[tactic(auto, unfolding(crate::specs::Layout::from_master, octets::specs::Pick::pick))]
 fn from_master(code: u8, s: &[u8]) -> Message
     ensures { result ≡ from_master code s.now }
 {
@@ -113,6 +115,7 @@ fn from_master(code: u8, s: &[u8]) -> Message
     }
 }
 
+#[tactic(auto, unfolding(crate::specs::Layout::layout_of, octets::specs::Pick::pick))]
 pub fn layout_of(side: u32, s: &[u8]) -> Message
     ensures { result ≡ layout_of side s.now }
 {

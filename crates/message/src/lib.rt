@@ -49,6 +49,7 @@ impl TryFrom<u8> for Status {
 
     ghost try_from_gives = { λ number r. r ≡ status_numbered number };
 
+    #[tactic(auto, unfolding(crate::specs::Fields::status_from, octets::specs::Pick::pick))]
     fn try_from(number: u8) -> Result<Self, NoStatus> {
         match number {
             0b00 => Ok(Status::AtOnce),
@@ -202,6 +203,7 @@ impl From<Result<usize, Refusal>> for Written {
 }
 
 // What bytes that a side sent say.
+#[tactic(auto, unfolding(crate::specs::Messages::read_of, octets::specs::Pick::pick))]
 pub fn read(side: u32, bytes: &[u8]) -> Result<Said, Refusal>
     ensures { reading result ≡ read_of side bytes.now }
 {

@@ -172,6 +172,7 @@ pub fn put_bytes(out: &mut [u8], i: usize, bytes: &[u8])
     out[i..i + bytes.len()].copy_from_slice(bytes);
 }
 
+#[tactic(auto, unfolding(crate::specs::Bits::has_bit))]
 pub fn has_bit(x: u64, k: u64) -> bool
     requires { k < 64 }
     ensures { result ≡ has_bit x k }
