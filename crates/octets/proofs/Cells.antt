@@ -20,12 +20,6 @@ length_cells (suc n) f = length-append (row_of n f) (f n ∷ []) ∙ rw (length_
 next : (i : ℕ) (f : ℕ → ℕ) (y : ℕ) (ys : List ℕ) → set (row_of i f ++ y ∷ ys) i (f i) ≡ row_of (i + 1) f ++ ys
 next i f y ys = set_at (row_of i f) y ys (f i) i (length_cells i f) ∙ rw (add-one) (sym (append_snoc (row_of i f) (f i) ys))
 
--- in an array of k cells
-pub next_of : (k z : ℕ) (f : ℕ → ℕ) (i : ℕ) → i < k → set (row_of i f ++ replicate (k - i) z) i (f i) ≡ row_of (i + 1) f ++ replicate (k - (i + 1)) z
-next_of k z f i h =
-    let e : k - i ≡ suc (k - (i + 1)) = omega arith in
-    rw e (next i f z (replicate (k - (i + 1)) z))
-
 -- in a slice
 pub next_in : (s : List ℕ) (f : ℕ → ℕ) (i : ℕ) → i < length s → set (row_of i f ++ drop i s) i (f i) ≡ row_of (i + 1) f ++ drop (i + 1) s
 next_in s f i h = rw (drop-cons s i 0 h) (next i f (get_or s i 0) (drop (suc i) s) ∙ rw (add-one))

@@ -1,7 +1,7 @@
--- The laws of numbers in bytes, each over the width: a number is its low bytes and its high bytes; it fits its width; what is written is
+-- The laws of numbers in bytes, each over the width: a number is one of more bytes that are 0; it fits its width; what is written is
 -- read back, and what is read is written again.
 use Prim.Native.Nat.{ℕ, zero, suc, ◌+◌, ◌-◌, ◌*◌, ◌/◌, ◌%◌, ◌^◌, ◌≤◌, ◌<◌}
-use native.Mathlib.Nat.{zero-add, add-zero, suc-add, add-suc, mul-add, mul_assoc, pow-succ', pow-suc, div-lt_iff_lt-mul, mod-add-div, zero-lt-suc}
+use native.Mathlib.Nat.{zero-add, add-zero, suc-add, add-suc, pow-succ', pow-suc, div-lt_iff_lt-mul, mod-add-div, zero-lt-suc}
 use native.Mathlib.Numerals.{add-one}
 use native.Mathlib.Omega.{arith}
 use mathlib.Core.Path.{◌≡◌, refl, sym, ap, subst, ◌∙◌}
@@ -14,21 +14,6 @@ use Rattle.octets.specs.Octets.{number_at, bytes_of}
 -- every element is a byte, as in a slice of bytes
 abbrev pub Bytes : List ℕ → Type 0
 Bytes s = (k : ℕ) → get_or s k 0 < 256
-
--- the low v bytes and the high w bytes
-pub number_split : (v w : ℕ) (s : List ℕ) (i : ℕ) → number_at (v + w) s i ≡ number_at v s i + 256 ^ v * number_at w s (i + v)
-unfolding number_at
-number_split zero w s i = rw (zero-add w, add-zero i) (omega arith)
-number_split (suc v) w s i =
-    let b : ℕ = get_or s i 0 in
-    let low : ℕ = number_at v s (i + 1) in
-    let high : ℕ = number_at w s (i + suc v) in
-    let e : i + 1 + v ≡ i + suc v = omega (arith, add-suc i v) in
-    let step : number_at (v + w) s (i + 1) ≡ low + 256 ^ v * high =
-    number_split v w s (i + 1) ∙ ap (λ (j : ℕ). low + 256 ^ v * number_at w s j) e in
-    ap (λ (n : ℕ). number_at n s i) (suc-add v w)
-    ∙ ap (λ (n : ℕ). b + 256 * n) step
-    ∙ rw (mul-add 256 low (256 ^ v * high), ← mul_assoc 256 (256 ^ v) high, ← pow-succ' 256 v) (omega arith)
 
 -- a number of one byte is that byte
 pub number_one : (s : List ℕ) (i : ℕ) → number_at 1 s i ≡ get_or s i 0
