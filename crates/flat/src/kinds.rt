@@ -1,4 +1,4 @@
-// The kinds of message: C.2 to E.8 in the order of the clauses.
+// The kinds of message: C.2 to E.8 in the order of the clauses. They stay numbers: a C host may hand any in a struct that include/scm.h declares.
 pub const NOTHING: u8 = 0;
 
 pub const CAPABILITY_REQUEST: u8 = 1;

@@ -17,7 +17,7 @@ pub mod fields;
 pub mod forms;
 pub mod layout;
 
-// The side that sent a message.
+// The side that sent a message, as the C interface has it: a host may hand any number, and of another side every message is refused.
 pub const CLIENT: u32 = 0;
 
 pub const MASTER: u32 = 1;
@@ -116,7 +116,7 @@ pub struct Receipt {
 // The label of D.3 and D.5 and the pool of D.6 stand beside the message.
 #[derive(Clone, Copy)]
 pub enum Message {
-    // None: what a refused reading holds.
+    // None: what a code says that its side does not send, or a kind that the C interface does not have.
     Nothing,
     // C.2: the version.
     CapabilityRequest(u8),
