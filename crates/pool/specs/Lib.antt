@@ -1,4 +1,5 @@
 pub mod Verdicts
+pub mod Faults
 pub mod Fields
 pub mod Ranges
 pub mod StageOne

@@ -10,9 +10,10 @@ pub returns-then-s-at-lt3 : goal.returns-then-s-at-lt3
 unfolding code_of faults_at pick
 returns-then-s-at-lt3 c = rw (lt-ltb _ _ c.if-s-at-lt3.true)
 
-pub returns : goal.returns
+pub returns-in_default : goal.returns-in_default
 unfolding code_of faults_at pick
-returns c =
-    let kind = c.kind_at-kind.result in
-    let above : 2 < kind = omega arith in
-    rw (← c.kind_at-kind.ensures, le-ltb _ _ c.if-s-at-lt3.false, lt-ltb 2 kind above)
+returns-in_default c =
+    let kind = c.kind_at.result in
+    let h = c.in_default in
+    let above : 2 < kind = grind (arith, h) in
+    rw (← c.kind_at.ensures, le-ltb _ _ c.if-s-at-lt3.false, lt-ltb 2 kind above)

@@ -7,10 +7,11 @@ use borrow.Author.Tests.{eqb-true}
 use Rattle.octets.proofs.Tests.{both}
 use Rattle.pool.specs.Fields.{kind_at, function_type, state_type}
 use Rattle.pool.specs.declared.Verdict.{Verdict}
+use Rattle.pool.specs.Faults.{code_number}
 use Rattle.pool.specs.StageOne.{code_at, fault_at, stage_one}
 use Rattle.pool.specs.Search.Index.{Within}
 use Rattle.pool.proofs.Walk.{size_least, places_end}
-use Rattle.pool.proofs.Faults.{walk_end, walk_here}
+use Rattle.pool.proofs.Faults.{code_not_zero, walk_end, walk_here}
 use Rattle.pool.proofs.Within.{within_places}
 use Rattle.pool.proofs.Base.{no_base, state_size, function_size, base_start, base_end, turn_next}
 use Rattle.pool.proofs.stage_one.stage_one.Goals as goal
@@ -48,15 +49,14 @@ loop-at-preserved-then-right_function c =
     (turn_next s i.places i.count i.base i.at i.invariant c.requires.0 (omega arith) (eqb-true _ _ right.0))
 
 -- a fault here is the first of the pool
-pub returns-then-code-ne0 : goal.returns-then-code-ne0
+pub returns-in-Err-clause-verdict_value : goal.returns-in-Err-clause-verdict_value
 unfolding stage_one
-returns-then-code-ne0 c =
+returns-in-Err-clause-verdict_value c =
     let s = c.args.s.now in
-    let at = c.loop-at.at in record {
-      verdict_value = rw (c.code_at-code.ensures, c.name_at-object.ensures)
-          (sym (c.loop-at.invariant.fault ∙ walk_here (fault_at s) s at (omega arith) (λ e. c.if-code-ne0.true (c.code_at-code.ensures ∙ e))));
-      walks = λ e. absurd (c.if-code-ne0.true e);
-    }
+    let at = c.loop-at.at in
+    let e : code_at s at ≡ code_number c.in-Err.code = sym c.in-Err.ensures in
+    rw (c.in-Err.ensures, c.name_at-object.ensures)
+    (sym (c.loop-at.invariant.fault ∙ walk_here (fault_at s) s at (omega arith) (λ z. code_not_zero c.in-Err.code (sym e ∙ z))))
 
 pub loop-at-smaller : goal.loop-at-smaller
 loop-at-smaller c =
@@ -66,7 +66,7 @@ pub loop-at-preserved : goal.loop-at-preserved
 loop-at-preserved c =
     let i = c.loop-at in
     let s = c.args.s.now in
-    let right : code_at s i.at ≡ 0 = sym c.code_at-code.ensures ∙ c.if-code-ne0.false in
+    let right : code_at s i.at ≡ 0 = sym c.in_default.ensures in
     rw (c.size_at-size.ensures.value, c.base_from-base.ensures)
     (turn_next s i.places i.count i.base i.at i.invariant c.requires.0 (omega arith) right)
 
@@ -78,7 +78,7 @@ returns c =
     let fine_one = sym (i.invariant.fault ∙ walk_end (fault_at s) s i.at (omega arith)) in
     let listed = rw (places_end s i.at (omega arith), append-nil) at i.invariant.listed in record {
       verdict_value = fine_one;
-      walks = λ e. record {
+      walks = record {
         few = i.invariant.few;
         listed = listed;
         within = subst (Within s) (sym listed) (within_places s (ap (λ (v : Verdict). v.code) (sym fine_one)));
