@@ -8,7 +8,7 @@ use Rattle.octets.specs.Label.{label_at}
 use Rattle.pool.specs.Verdicts.{first, first_of}
 use Rattle.pool.specs.Fields.{head_at, fixed_of, rest_at, places_f, places_from, numbers_at}
 use Rattle.pool.specs.StageOne.{code_of, faults_at, name_at, stage_one}
-use Rattle.pool.specs.StageTwo.{find, is_object, object_of, id_of, is_in, first_repeat, repeat_fault, absent_fault, ids_fault, states_absent, states_alike, rules_of, stage_two}
+use Rattle.pool.specs.StageTwo.{find, is_object, object_of, id_of, first_repeat, repeat_fault, absent_fault, ids_fault, states_absent, states_alike, rules_of, stage_two}
 use Rattle.pool.specs.Pool.{verdict_of}
 use Rattle.profile.specs.Profile.{trigger_in, states_in, table_of, kept_at, kept_of_pool, profile_of}
 use Rattle.profile.specs.Promises.{SaysOf, KeptOf}
