@@ -11,12 +11,12 @@ use lib.Seq.{drop-cons}
 use borrow.Author.Tests.{eq-eqb, ne_eqb}
 use Rattle.octets.specs.Pick.{pick}
 use Rattle.std.specs.Prelude.{Result, Ok, Err}
-use Rattle.std.specs.Result.{result_and}
+use Rattle.std.specs.Result.{is_ok, result_and}
 use Rattle.pool.specs.declared.Verdict.{Verdict}
 use Rattle.pool.specs.declared.verdicts.Code.{Code}
 use Rattle.pool.specs.declared.verdicts.Code.TheVariants.{UnknownType, NoBase, NoFunction, NoState, NumberTwice, FunctionTwice, StateTwice, VersionLength, VersionBytes, ConfigurationLength, WrongVersion, Other}
 use Rattle.pool.specs.declared.verdicts.Fault.{Fault}
-use Rattle.pool.specs.Faults.{code_number, fault_verdict, said}
+use Rattle.pool.specs.Faults.{code_number, answer_code, fault_verdict, said}
 use Rattle.std.specs.List.{list_all}
 use Rattle.pool.specs.Verdicts.{verdict, fine, fault, first, first_of, first_fault}
 use Rattle.pool.specs.StageTwo.{character_right, character_fault}
@@ -46,6 +46,11 @@ code_not_zero VersionBytes e = omega arith
 code_not_zero ConfigurationLength e = omega arith
 code_not_zero WrongVersion e = omega arith
 code_not_zero Other e = omega arith
+
+-- it has no fault where its code is 00
+pub is_right : {T : Type 0} (answer : Result T Code) → is_ok answer ≡ eqb (answer_code answer) 0x00
+is_right (Ok x) = refl
+is_right (Err c) = sym (ne_eqb (code_number c) 0x00 (code_not_zero c))
 
 pub fault_stays : (f : Fault) (later : Verdict) → first (fault_verdict f) later ≡ fault_verdict f
 fault_stays f later = first_fault_lem (fault_verdict f) later (code_not_zero f.code)

@@ -43,6 +43,7 @@ module _ (code : ℕ) (names keys : List ℕ) (k : ℕ) (e : k ≡ first_repeat 
 -- ---- the keys seen, a bit for each
 
 pub seen_none : Holds (replicate 1024 0) []
+unfolding is_in
 seen_none n h = rw (get_or-replicate {A = ℕ} 1024 (n / 64) 0 0 (omega arith)) (has_none (n % 64))
 
 or_assoc : (a b c : Bool) → (a || (b || c)) ≡ ((a || b) || c)
@@ -62,6 +63,7 @@ or_comm true b = sym (or_true b)
 or_comm false b = sym (or_false b)
 
 in_snoc : (x y : ℕ) (l : List ℕ) → is_in x (l ++ y ∷ []) ≡ (is_in x l || eqb y x)
+unfolding is_in
 in_snoc x y [] = or_false (eqb y x)
 in_snoc x y (z ∷ l) = rw (in_snoc x y l) (or_assoc (eqb z x) (is_in x l) (eqb y x))
 
@@ -109,7 +111,7 @@ module _ (bits l : List ℕ) (key : ℕ) (wide : length bits ≡ 1024) (small : 
 
 -- it has such a key exactly where the list has it
 pub has_bits : (keys : List ℕ) (t : ℕ) → t < 64 → has_bit (bits_of keys) t ≡ is_in t keys
-unfolding bits_of pick
+unfolding bits_of is_in pick
 has_bits [] t h = has_none t
 has_bits (k ∷ keys) t h = go (ltb k 64) refl (has_bits keys t h)
   where
@@ -132,7 +134,7 @@ module _ (k : ℕ) (keys : List ℕ) (new : is_in k keys ≡ false) where
 
 -- nor among those seen before
 never : (seen keys : List ℕ) → Unlike keys → ((x : ℕ) → is_in x keys ≡ true → is_in x seen ≡ false) → first_repeat seen keys ≡ length keys
-unfolding first_repeat pick
+unfolding first_repeat is_in pick
 never seen [] u new = refl
 never seen (k ∷ keys) u new =
     let here : is_in k seen ≡ false = new k (rw (eq-eqb k k refl)) in
@@ -141,6 +143,7 @@ never seen (k ∷ keys) u new =
     rw here (ap suc later)
 
 pub unlike_fine : (code : ℕ) (names keys : List ℕ) → Unlike keys → repeat_fault code names keys ≡ fine
+unfolding is_in
 unlike_fine code names keys u =
     let e : first_repeat [] keys ≡ length keys = never [] keys u (λ x e. refl) in
     repeat_fine code names keys (first_repeat [] keys) refl (omega (arith, e))

@@ -38,7 +38,7 @@ states_listed s ps n = states_of s (object_of s ps function_type n)
 -- ---- what stood before
 
 -- k is one of a list
-abbrev pub is_in : ℕ → List ℕ → Bool
+unfoldable pub is_in : ℕ → List ℕ → Bool
 is_in k xs = list_any (λ x. eqb x k) xs
 
 -- where the first key stands that stood before, after the keys of `seen`; the number of keys where none did

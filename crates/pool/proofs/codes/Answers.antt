@@ -23,6 +23,7 @@ use Rattle.pool.proofs.codes.Goals as goal
 
 -- ---- codes
 one : (c : ℕ) (l : List ℕ) → is_in c l ≡ true → OneOf c l
+unfolding is_in
 one c [] e = absurd (true≢false (sym e))
 one c (x ∷ l) e = go (eqb x c) refl (one c l) e
   where
@@ -31,6 +32,7 @@ one c (x ∷ l) e = go (eqb x c) refl (one c l) e
     go false is later e = inr (later e)
 
 is_in_lem : (c : ℕ) (l : List ℕ) → OneOf c l → is_in c l ≡ true
+unfolding is_in
 is_in_lem c [] g = absurd g
 is_in_lem c (x ∷ l) (inl e) = rw (eq-eqb x c (sym e))
 is_in_lem c (x ∷ l) (inr g) = rw (is_in_lem c l g) (or_true (eqb x c))
@@ -45,7 +47,7 @@ code_known [] none = inl refl
 code_known (f ∷ fs) (g also gs) = pick_both Known f.0 g (code_known fs gs)
 
 faults_known : (s : List ℕ) (at : ℕ) → All (λ (f : Fault). Known f.1) (faults_at s at)
-unfolding faults_at
+unfolding faults_at is_in
 faults_known s at =
     one 0xFF given refl
     also one 0x01 given refl
@@ -85,7 +87,7 @@ repeat_good code names keys g = fault_good _ code _ g
 
 -- ---- stage two: each rule with its code
 rules_good : (s ps : List ℕ) (b : ℕ) → All Good (rules_of s ps b)
-unfolding rules_of absent_fault ids_fault states_absent states_alike
+unfolding rules_of is_in absent_fault ids_fault states_absent states_alike
 rules_good s ps b =
     let listed : List ℕ = functions_of s b in
     fault_good _ 0x02 0 (one 0x02 given refl)
@@ -99,7 +101,7 @@ rules_good s ps b =
     also none
 
 known : (s : List ℕ) → Good (verdict_of s)
-unfolding verdict_of stage_one stage_two
+unfolding verdict_of stage_one stage_two is_in
 known s =
     let ps : List ℕ = places_from s 0 in
     pick_both Good _ (one 0xFF given refl)
@@ -108,9 +110,10 @@ known s =
     (all_good (rules_of s ps (object_of s ps base_type 0)) (rules_good s ps (object_of s ps base_type 0))))
 
 never_08 : (s : List ℕ) → (verdict_of s).code ≡ 0x08 → ⊥
+unfolding is_in
 never_08 s e = true≢false (sym (is_in_lem 0x08 given (subst Known e (known s))))
 
 -- ---- the examples
 pub returns : goal.returns
-unfolding number_at pick label_at first first_of head_at fixed_of rest_at places_f places_from numbers_at code_of faults_at name_at stage_one find is_object object_of id_of first_repeat repeat_fault absent_fault ids_fault states_absent states_alike rules_of stage_two verdict_of
+unfolding number_at pick label_at first first_of head_at fixed_of rest_at places_f places_from numbers_at code_of faults_at name_at stage_one find is_object object_of id_of is_in first_repeat repeat_fault absent_fault ids_fault states_absent states_alike rules_of stage_two verdict_of
 returns c = record { known = known; never_08 = never_08; each = refl; objects = refl; order = refl }

@@ -8,7 +8,7 @@ use Rattle.octets.specs.Label.{label_at}
 use Rattle.pool.specs.Verdicts.{first, first_of}
 use Rattle.pool.specs.Fields.{head_at, fixed_of, rest_at, places_f, places_from, numbers_at}
 use Rattle.pool.specs.StageOne.{code_of, faults_at, name_at, stage_one}
-use Rattle.pool.specs.StageTwo.{find, is_object, object_of, id_of, first_repeat, repeat_fault, absent_fault, ids_fault, states_absent, states_alike, rules_of, stage_two}
+use Rattle.pool.specs.StageTwo.{find, is_object, object_of, id_of, is_in, first_repeat, repeat_fault, absent_fault, ids_fault, states_absent, states_alike, rules_of, stage_two}
 use Rattle.pool.specs.Pool.{verdict_of}
 use Rattle.profile.specs.Profile.{trigger_in, states_in, table_of, kept_at, kept_of_pool, profile_of}
 use Rattle.profile.specs.Promises.{SaysOf, KeptOf}
@@ -20,7 +20,7 @@ unfolding profile_of pick
 says_of s e = rw (eq-eqb (verdict_of s).code 0 e) (says s)
 
 kept_of : KeptOf
-unfolding number_at pick with_bit label_at first first_of head_at fixed_of rest_at places_f places_from numbers_at code_of faults_at name_at stage_one find is_object object_of id_of first_repeat repeat_fault absent_fault ids_fault states_absent states_alike rules_of stage_two verdict_of trigger_in states_in bits_of table_of kept_at kept_of_pool profile_of
+unfolding number_at pick with_bit label_at first first_of head_at fixed_of rest_at places_f places_from numbers_at code_of faults_at name_at stage_one find is_object object_of id_of is_in first_repeat repeat_fault absent_fault ids_fault states_absent states_alike rules_of stage_two verdict_of trigger_in states_in bits_of table_of kept_at kept_of_pool profile_of
 kept_of = refl
 
 pub returns : goal.returns
