@@ -18,7 +18,6 @@ ghost use Rattle.pool.specs.Cases.{Cases};
 ghost use Rattle.pool.specs.Codes.{Codes};
 ghost use Rattle.pool.specs.Edges.{Edges};
 
-use crate::stage_one::Walked;
 use crate::stage_two::Index;
 use crate::verdicts::{Fault, TOO_LONG, said};
 
@@ -98,15 +97,25 @@ pub enum Head {
     State(StateHead),
 }
 
+// How many objects there are, and where the base stands.
+#[derive(Clone, Copy)]
+pub struct Walked {
+    pub count: usize,
+    pub base: usize,
+}
+
 // The walk of stage one and, where it finds no fault, the rules that need no list.
 pub fn before_lists(pool: &[u8], places: &mut [u16]) -> Result<Walked, Fault>
     requires { (length pool.now ≤ 16384) × (length places.old ≡ 2048) }
     ensures verdict_value { said result ≡ first (stage_one pool.now) (first_of (take 4 (rules pool.now))) }
     ensures walks { IfOk result (λ walked. Walks pool.now places.new walked.count walked.base) }
 {
-    let walked = stage_one::stage_one(pool, places)?;
-    stage_two::objects_fault(pool, &places[..walked.count], walked.base)?;
-    Ok(walked)
+    let met = stage_one::stage_one(pool, places)?;
+    let base = stage_two::objects_fault(pool, &places[..met.count], met.base)?;
+    Ok(Walked {
+        count: met.count,
+        base,
+    })
 }
 
 // The first fault of any bytes at all.

@@ -1,5 +1,5 @@
 // Stage one: the objects in their order, and the first fault of one of them.
-ghost use Rattle.std.specs.Prelude.{◌≡◌, ◌&&◌, ◌+◌, ◌≤◌, ◌<◌, eqb, length, IfOk};
+ghost use Rattle.std.specs.Prelude.{◌≡◌, ◌&&◌, ◌+◌, ◌≤◌, ◌<◌, eqb, length, unwrap_or, IfSome, IfOk};
 ghost use Rattle.pool.specs.Faults.{answer_code, said};
 ghost use Rattle.pool.specs.Fields.{kind_at, base_type, function_type, state_type};
 ghost use Rattle.pool.specs.StageOne.{code_at, name_at, stage_one};
@@ -129,34 +129,41 @@ fn right_function(s: &[u8], at: usize) -> bool
 }
 
 // Where the first base stands, this object taken in: at it, if it is one and none was met before.
-fn base_from(s: &[u8], at: usize, base: usize) -> usize
-    requires { at < 65536 }
-    ensures { result ≡ base_from s.now at base }
+fn base_from(s: &[u8], at: usize, base: Option<usize>) -> Option<usize>
+    requires at_in { (at < 65536) × (at < length s.now) }
+    requires base_in { IfSome base (λ b. b < length s.now) }
+    ensures place { unwrap_or result (length s.now) ≡ base_from s.now at (unwrap_or base (length s.now)) }
+    ensures within { IfSome result (λ b. b < length s.now) }
 {
+    if base.is_some() {
+        return base;
+    }
     let number = object_number(s, at);
     let kind = kind_at(s, at);
-    if (base == s.len()) & ((number == 0) & (kind == BASE_TYPE)) {
-        return at;
+    if (number == 0) & (kind == BASE_TYPE) {
+        Some(at)
+    } else {
+        None
     }
-    base
 }
 
-// How many objects there are, and where the first base stands, the pool's length if nowhere.
+// How many objects there are, and where the first base stands.
 #[derive(Clone, Copy)]
-pub struct Walked {
+pub struct Met {
     pub count: usize,
-    pub base: usize,
+    pub base: Option<usize>,
 }
 
 // An object has 8 bytes at least, so a pool holds at most 2,048. Most are states, then functions, so it is asked first whether one of these stands there
 // without a fault; a base, and the object at fault, come to `code_at`.
-pub fn stage_one(s: &[u8], places: &mut [u16]) -> Result<Walked, Fault>
+pub fn stage_one(s: &[u8], places: &mut [u16]) -> Result<Met, Fault>
     requires { (length s.now ≤ 16384) × (length places.old ≡ 2048) }
     ensures verdict_value { said result ≡ stage_one s.now }
-    ensures walks { IfOk result (λ walked. Walks s.now places.new walked.count walked.base) }
+    ensures walks { IfOk result (λ met. Walks s.now places.new met.count (unwrap_or met.base (length s.now))) }
+    ensures within { IfOk result (λ met. IfSome met.base (λ b. b < length s.now)) }
 {
     let mut count: usize = 0;
-    let mut base = s.len();
+    let mut base = None;
     let mut at: usize = 0;
     while at < s.len() {
         if right_state(s, at) {
@@ -182,5 +189,5 @@ pub fn stage_one(s: &[u8], places: &mut [u16]) -> Result<Walked, Fault>
         count += 1;
         at += size;
     }
-    Ok(Walked { count, base })
+    Ok(Met { count, base })
 }

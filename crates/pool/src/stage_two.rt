@@ -304,24 +304,26 @@ fn label_fault(s: &[u8], b: usize) -> Result<(), Fault>
     Ok(())
 }
 
-// The rules that need no list, in their order: 02, 05, 0C, 0A.
-pub fn objects_fault(s: &[u8], ps: &[u16], b: usize) -> Result<(), Fault>
-    requires { Within s.now ps.now × (b < 65536) }
-    ensures { said result ≡ first_of (take 4 (rules_of s.now ps.now b)) }
+// The rules that need no list, in their order: 02, 05, 0C, 0A. Where they find no fault, the place of the base.
+pub fn objects_fault(s: &[u8], ps: &[u16], base: Option<usize>) -> Result<usize, Fault>
+    requires places_in { Within s.now ps.now }
+    requires base_in { IfSome base (λ b. (b < 65536) × (b < length s.now)) }
+    ensures verdict_value { said result ≡ first_of (take 4 (rules_of s.now ps.now (unwrap_or base (length s.now)))) }
+    ensures base_value { IfOk result (λ b. base ≡ Some b) }
 {
-    if s.len() <= b {
+    let Some(b) = base else {
         return Err(Fault {
             code: Code::NoBase,
             object: 0x0000,
         });
-    }
+    };
     numbers_fault(s, ps)?;
-    let base = base_at(s, b);
-    if base.version != 2 {
+    if base_at(s, b).version != 2 {
         return Err(Fault {
             code: Code::WrongVersion,
             object: 0x0000,
         });
     }
-    label_fault(s, b)
+    label_fault(s, b)?;
+    Ok(b)
 }
