@@ -10,6 +10,7 @@ pub mod verdicts;
 
 ghost use Rattle.std.specs.Prelude.{◌≡◌, ◌≤◌, length, take, IfOk};
 ghost use Rattle.pool.specs.Faults.{said};
+ghost use Rattle.pool.specs.Types.{type_number, IsType};
 ghost use Rattle.pool.specs.Verdicts.{first, first_of};
 ghost use Rattle.pool.specs.StageOne.{stage_one};
 ghost use Rattle.pool.specs.Search.Walk.{Walks, rules};
@@ -19,7 +20,7 @@ ghost use Rattle.pool.specs.Codes.{Codes};
 ghost use Rattle.pool.specs.Edges.{Edges};
 
 use crate::stage_two::Index;
-use crate::verdicts::{Fault, TOO_LONG, said};
+use crate::verdicts::{Code, Fault, TOO_LONG, said};
 
 // A code of D.9, 0 for success, and the number of the object it is about.
 #[repr(C)]
@@ -36,11 +37,42 @@ pub const FINE: Verdict = Verdict {
 };
 
 // The types of objects: byte 3 of tables A.1 to A.3.
-pub const BASE_TYPE: u8 = 0;
+#[derive(Clone, Copy, Debug, PartialEq, Eq)]
+pub enum ObjectType {
+    Base = 0,
+    Function = 1,
+    State = 2,
+}
 
-pub const FUNCTION_TYPE: u8 = 1;
+impl ObjectType {
+    pub fn number(self) -> u8
+        ensures { result ≡ type_number self }
+    {
+        self as u8
+    }
+}
 
-pub const STATE_TYPE: u8 = 2;
+impl TryFrom<u8> for ObjectType {
+    type Error = Code;
+
+    ghost try_from_gives = { IsType };
+
+    fn try_from(number: u8) -> Result<ObjectType, Code> {
+        match number {
+            0 => Ok(ObjectType::Base),
+            1 => Ok(ObjectType::Function),
+            2 => Ok(ObjectType::State),
+            _ => Err(Code::UnknownType),
+        }
+    }
+}
+
+// As the byte that a pool has: a byte that is none of the three is compared too.
+pub const BASE_TYPE: u8 = ObjectType::Base as u8;
+
+pub const FUNCTION_TYPE: u8 = ObjectType::Function as u8;
+
+pub const STATE_TYPE: u8 = ObjectType::State as u8;
 
 // How many bytes the fixed part of each has.
 pub const BASE_FIXED: usize = 27;

@@ -10,7 +10,9 @@ use crate::fields::{
 };
 use crate::ranges::{base_right, function_right, label_right, state_right};
 use crate::verdicts::{Code, Fault};
-use crate::{BASE_FIXED, BASE_TYPE, FUNCTION_FIXED, FUNCTION_TYPE, STATE_FIXED, STATE_TYPE};
+use crate::{
+    BASE_FIXED, BASE_TYPE, FUNCTION_FIXED, FUNCTION_TYPE, ObjectType, STATE_FIXED, STATE_TYPE,
+};
 
 // The code of the fault of the base, the function or the state at a place.
 fn base_code(s: &[u8], at: usize) -> Result<(), Code>
@@ -78,11 +80,10 @@ pub fn code_at(s: &[u8], at: usize) -> Result<(), Code>
     if s.len() - at < 3 {
         return Err(Code::Other);
     }
-    match kind_at(s, at) {
-        FUNCTION_TYPE => function_code(s, at),
-        STATE_TYPE => state_code(s, at),
-        BASE_TYPE => base_code(s, at),
-        _ => Err(Code::UnknownType),
+    match ObjectType::try_from(kind_at(s, at))? {
+        ObjectType::Function => function_code(s, at),
+        ObjectType::State => state_code(s, at),
+        ObjectType::Base => base_code(s, at),
     }
 }
 

@@ -3,6 +3,7 @@ ghost use Rattle.std.specs.Prelude.{◌≡◌, map, [], ◌+◌, ◌-◌, ◌≤
 ghost use Rattle.std.specs.List.{list_all};
 ghost use Rattle.octets.specs.Bits.{bits_of};
 ghost use Rattle.pool.specs.Faults.{code_number, said};
+ghost use Rattle.pool.specs.Types.{type_number};
 ghost use Rattle.pool.specs.Verdicts.{first_of, first_fault};
 ghost use Rattle.pool.specs.Verdicts as Verdicts;
 ghost use Rattle.pool.specs.Fields.{object_number, state_type, numbers_at, functions_of, version_label};
@@ -10,10 +11,10 @@ ghost use Rattle.pool.specs.Search.Index.{Within, Indexed};
 ghost use Rattle.pool.specs.Search.Look.{Right, set_of, Sets};
 ghost use Rattle.pool.specs.StageTwo.{object_of, id_of, first_repeat, label_bytes, is_forbidden, character_right, repeat_fault, character_fault, absent_fault, ids_fault, states_absent, states_alike, rules_of};
 
+use crate::ObjectType;
 use crate::fields::{Listed, base_at, functions_of, id_at, states_of, version_label};
 use crate::seen::Seen;
 use crate::verdicts::{Code, Fault};
-use crate::{FUNCTION_TYPE, STATE_TYPE};
 use octets::{has_bit, u16_in, with_bit};
 
 // How many chains there are.
@@ -57,8 +58,8 @@ impl<'a> Index<'a> {
     }
 
     // The place of the object of this number and type.
-    pub fn find_object(&self, kind: u8, n: u16) -> Option<usize>
-        ensures place { unwrap_or result (length self.now.pool.now) ≡ object_of self.now.pool.now self.now.places.now kind n }
+    pub fn find_object(&self, kind: ObjectType, n: u16) -> Option<usize>
+        ensures place { unwrap_or result (length self.now.pool.now) ≡ object_of self.now.pool.now self.now.places.now (type_number kind) n }
         ensures within { IfSome result (λ p. p + 8 ≤ length self.now.pool.now) }
     {
         let b = (n % CHAINS) as usize;
@@ -67,7 +68,7 @@ impl<'a> Index<'a> {
             let p = self.places[i] as usize;
             let number = u16_in(self.pool, p);
             let found = self.pool[p + 2];
-            if (number == n) & (found == kind) {
+            if (number == n) & (found == kind.number()) {
                 return Some(p);
             }
             i = self.chain[16384 + i] as usize;
@@ -76,16 +77,16 @@ impl<'a> Index<'a> {
     }
 
     // The same; past the pool's end, where every byte reads as 0, where there is none.
-    pub fn place_of(&self, kind: u8, n: u16) -> usize
-        ensures place { result ≡ object_of self.now.pool.now self.now.places.now kind n }
+    pub fn place_of(&self, kind: ObjectType, n: u16) -> usize
+        ensures place { result ≡ object_of self.now.pool.now self.now.places.now (type_number kind) n }
         ensures within { result ≤ 16384 }
     {
         self.find_object(kind, n).unwrap_or(self.pool.len())
     }
 
     // The ID of each object of this type in a list of numbers, at the front; the other cells are 0.
-    fn ids_of(&self, kind: u8, list: Listed) -> [u16; 255]
-        ensures { (take list.count result ≡ map (id_of self.now.pool.now self.now.places.now kind) (numbers_at 2 self.now.pool.now list.at list.count)) × (drop list.count result ≡ replicate (255 - list.count) 0) }
+    fn ids_of(&self, kind: ObjectType, list: Listed) -> [u16; 255]
+        ensures { (take list.count result ≡ map (id_of self.now.pool.now self.now.places.now (type_number kind)) (numbers_at 2 self.now.pool.now list.at list.count)) × (drop list.count result ≡ replicate (255 - list.count) 0) }
     {
         let mut ids = [0u16; 255];
         for k in 0..list.count {
@@ -96,8 +97,8 @@ impl<'a> Index<'a> {
     }
 
     // The first number of a list of which no object of this type is there.
-    fn absent_fault(&self, code: Code, kind: u8, list: Listed) -> Result<(), Fault>
-        ensures { said result ≡ first_fault (absent_fault self.now.pool.now self.now.places.now (code_number code) kind) (numbers_at 2 self.now.pool.now list.at list.count) }
+    fn absent_fault(&self, code: Code, kind: ObjectType, list: Listed) -> Result<(), Fault>
+        ensures { said result ≡ first_fault (absent_fault self.now.pool.now self.now.places.now (code_number code) (type_number kind)) (numbers_at 2 self.now.pool.now list.at list.count) }
     {
         for k in 0..list.count {
             let object = list.number(self.pool, k);
@@ -109,8 +110,8 @@ impl<'a> Index<'a> {
     }
 
     // The first number of a list whose object has an ID that stood before.
-    fn ids_fault(&self, code: Code, kind: u8, list: Listed) -> Result<(), Fault>
-        ensures { said result ≡ ids_fault self.now.pool.now self.now.places.now (code_number code) kind (numbers_at 2 self.now.pool.now list.at list.count) }
+    fn ids_fault(&self, code: Code, kind: ObjectType, list: Listed) -> Result<(), Fault>
+        ensures { said result ≡ ids_fault self.now.pool.now self.now.places.now (code_number code) (type_number kind) (numbers_at 2 self.now.pool.now list.at list.count) }
     {
         let ids = self.ids_of(kind, list);
         match first_repeat(&ids[..list.count]) {
@@ -126,7 +127,7 @@ impl<'a> Index<'a> {
     fn set_at(&self, list: Listed) -> u64
         ensures { result ≡ set_of self.now.pool.now self.now.places.now (numbers_at 2 self.now.pool.now list.at list.count) }
     {
-        let ids = self.ids_of(STATE_TYPE, list);
+        let ids = self.ids_of(ObjectType::State, list);
         bits_of(&ids[..list.count])
     }
 
@@ -137,7 +138,7 @@ impl<'a> Index<'a> {
     {
         let mut ids: u64 = 0;
         for k in (0..list.count).rev() {
-            let p = self.find_object(STATE_TYPE, list.number(self.pool, k))?;
+            let p = self.find_object(ObjectType::State, list.number(self.pool, k))?;
             let id = self.pool[p + 3];
             if 63 < id {
                 return None;
@@ -162,8 +163,8 @@ impl<'a> Index<'a> {
                 ids,
             };
         }
-        let absent = self.absent_fault(Code::NoState, STATE_TYPE, list);
-        let alike = self.ids_fault(Code::StateTwice, STATE_TYPE, list);
+        let absent = self.absent_fault(Code::NoState, ObjectType::State, list);
+        let alike = self.ids_fault(Code::StateTwice, ObjectType::State, list);
         let ids = self.set_at(list);
         Found { absent, alike, ids }
     }
@@ -178,7 +179,7 @@ impl<'a> Index<'a> {
         let mut alike = Ok(());
         let mut sets = [0u64; 255];
         for k in (0..list.count).rev() {
-            let p = self.place_of(FUNCTION_TYPE, list.number(self.pool, k));
+            let p = self.place_of(ObjectType::Function, list.number(self.pool, k));
             let found = self.list_at(states_of(self.pool, p));
             absent = found.absent.and(absent);
             alike = found.alike.and(alike);
@@ -195,8 +196,8 @@ impl<'a> Index<'a> {
         ensures sets { IfOk result (λ states. Sets self.now.pool.now self.now.places.now (functions_of self.now.pool.now b) states 0) }
     {
         let list = functions_of(self.pool, b);
-        self.absent_fault(Code::NoFunction, FUNCTION_TYPE, list)?;
-        self.ids_fault(Code::FunctionTwice, FUNCTION_TYPE, list)?;
+        self.absent_fault(Code::NoFunction, ObjectType::Function, list)?;
+        self.ids_fault(Code::FunctionTwice, ObjectType::Function, list)?;
         self.states_fault(list)
     }
 }

@@ -18,7 +18,7 @@ use pool::fields::{
 };
 use pool::stage_two::Index;
 use pool::verdicts::{Fault, TOO_LONG};
-use pool::{FUNCTION_TYPE, before_lists};
+use pool::{ObjectType, before_lists};
 
 // trigger[f] is the preferred trigger of function f, 0 where the pool lists none; bit s of states[f] says that f has state s.
 #[repr(C)]
@@ -67,7 +67,7 @@ fn tables_of(index: &Index, list: Listed, sets: &[u64; 255]) -> Tables
     let mut trigger = [0u8; 256];
     let mut states = [0u64; 256];
     for k in (0..list.count).rev() {
-        let p = index.place_of(FUNCTION_TYPE, list.number(index.pool, k));
+        let p = index.place_of(ObjectType::Function, list.number(index.pool, k));
         let id = id_at(index.pool, p) as usize;
         trigger[id] = trigger_at(index.pool, p);
         states[id] = sets[k];

@@ -2,15 +2,13 @@
 use native.Mathlib.Omega.{arith}
 use mathlib.Core.Bool.{not}
 use mathlib.Core.Path.{refl, ap, sym, ◌∙◌}
-use mathlib.Core.List.{map}
 use borrow.Author.Tests.{eq-eqb, ne_eqb, le-leb, lt-leb}
 use Rattle.std.proofs.lemmas.Result.{err_from_is_err_and}
 use Rattle.pool.specs.declared.BaseHead.{BaseHead}
 use Rattle.pool.specs.declared.verdicts.Code.TheVariants.{NoBase, WrongVersion}
 use Rattle.pool.specs.Verdicts.{first_of}
-use Rattle.pool.specs.Fields.{version_label}
-use Rattle.pool.specs.StageTwo.{label_bytes, character_fault, rules_of}
-use Rattle.pool.proofs.Faults.{stop, pass, stop_at, pass_by, first_last}
+use Rattle.pool.specs.StageTwo.{rules_of}
+use Rattle.pool.proofs.Faults.{stop, pass, stop_at, pass_by}
 use Rattle.pool.proofs.stage_two.objects_fault.Goals as goal
 
 pub returns-in_default-clause-verdict_value : goal.returns-in_default-clause-verdict_value

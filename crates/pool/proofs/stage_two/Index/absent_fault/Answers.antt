@@ -5,6 +5,7 @@ use mathlib.Core.Path.{◌≡◌, refl, sym, ap, ◌∙◌}
 use lib.ListN.{length}
 use borrow.Author.Tests.{le-leb, lt-leb}
 use Rattle.octets.proofs.Tests.{pick_true, pick_false}
+use Rattle.pool.specs.Types.{type_number}
 use Rattle.pool.specs.Faults.{code_number}
 use Rattle.pool.specs.Verdicts.{verdict, fine}
 use Rattle.pool.specs.Fields.{numbers_at}
@@ -22,9 +23,9 @@ returns-then-is_none c =
     let ps = a.self.now.places.now in
     let l = numbers_at 2 s a.list.at a.list.count in
     let n = c.number-object.result in
-    let p : object_of s ps a.kind n ≡ length s = sym c.find_object.ensures.place ∙ nowhere c.find_object.result (length s) c.if-is_none.ensures in
-    let e : absent_fault s ps (code_number a.code) a.kind n ≡ verdict (code_number a.code) n = pick_true _ _ _ (le-leb _ _ (omega (arith, p))) in
-    sym (i.invariant ∙ fault_here (absent_fault s ps (code_number a.code) a.kind) l i.k _ (omega (arith, length_numbers 2 s a.list.at a.list.count)) (ap (absent_fault s ps (code_number a.code) a.kind) (sym c.number-object.ensures) ∙ e) (code_not_zero a.code))
+    let p : object_of s ps (type_number a.kind) n ≡ length s = sym c.find_object.ensures.place ∙ nowhere c.find_object.result (length s) c.if-is_none.ensures in
+    let e : absent_fault s ps (code_number a.code) (type_number a.kind) n ≡ verdict (code_number a.code) n = pick_true _ _ _ (le-leb _ _ (omega (arith, p))) in
+    sym (i.invariant ∙ fault_here (absent_fault s ps (code_number a.code) (type_number a.kind)) l i.k _ (omega (arith, length_numbers 2 s a.list.at a.list.count)) (ap (absent_fault s ps (code_number a.code) (type_number a.kind)) (sym c.number-object.ensures) ∙ e) (code_not_zero a.code))
 
 pub loop-k-preserved : goal.loop-k-preserved
 unfolding absent_fault
@@ -36,13 +37,13 @@ loop-k-preserved c =
     let l = numbers_at 2 s a.list.at a.list.count in
     let n = c.number-object.result in
     let there = somewhere c.find_object.result (length s) c.if-is_none.ensures c.find_object.ensures.within in
-    let p : object_of s ps a.kind n < length s = rw c.find_object.ensures.place at there in
-    let e : absent_fault s ps (code_number a.code) a.kind n ≡ fine = pick_false _ _ _ (lt-leb _ _ p) in
-    i.invariant ∙ fault_next (absent_fault s ps (code_number a.code) a.kind) l i.k fine (omega (arith, length_numbers 2 s a.list.at a.list.count)) (ap (absent_fault s ps (code_number a.code) a.kind) (sym c.number-object.ensures) ∙ e) refl
+    let p : object_of s ps (type_number a.kind) n < length s = rw c.find_object.ensures.place at there in
+    let e : absent_fault s ps (code_number a.code) (type_number a.kind) n ≡ fine = pick_false _ _ _ (lt-leb _ _ p) in
+    i.invariant ∙ fault_next (absent_fault s ps (code_number a.code) (type_number a.kind)) l i.k fine (omega (arith, length_numbers 2 s a.list.at a.list.count)) (ap (absent_fault s ps (code_number a.code) (type_number a.kind)) (sym c.number-object.ensures) ∙ e) refl
 
 pub returns : goal.returns
 returns c =
     let i = c.loop-k in
     let a = c.args in
     let s = a.self.now.pool.now in
-    sym (i.invariant ∙ fault_end (absent_fault s a.self.now.places.now (code_number a.code) a.kind) (numbers_at 2 s a.list.at a.list.count) i.k (omega (arith, length_numbers 2 s a.list.at a.list.count)))
+    sym (i.invariant ∙ fault_end (absent_fault s a.self.now.places.now (code_number a.code) (type_number a.kind)) (numbers_at 2 s a.list.at a.list.count) i.k (omega (arith, length_numbers 2 s a.list.at a.list.count)))

@@ -3,6 +3,7 @@ use native.Mathlib.Omega.{arith}
 use mathlib.Core.Path.{sym, ap, ◌∙◌}
 use mathlib.Core.List.{[], map}
 use lib.ListN.{length, take}
+use Rattle.pool.specs.Types.{type_number}
 use Rattle.pool.specs.Faults.{code_number}
 use Rattle.pool.specs.Verdicts.{verdict}
 use Rattle.pool.specs.Fields.{numbers_at}
@@ -16,7 +17,7 @@ returns-in-Some c =
     let a = c.args in
     let s = a.self.now.pool.now in
     let names = numbers_at 2 s a.list.at a.list.count in
-    let keys = map (id_of s a.self.now.places.now a.kind) names in
+    let keys = map (id_of s a.self.now.places.now (type_number a.kind)) names in
     let gathered = c.ids_of-ids.ensures.0 in
     sym (repeat_fault_lem (code_number a.code) names keys c.in-Some.k (c.in-Some.ensures.place ∙ ap (first_repeat []) gathered) (omega (arith, c.in-Some.ensures.within, ap length gathered))
     ∙ ap (verdict (code_number a.code)) (sym c.number.ensures))
@@ -27,6 +28,6 @@ returns-in-None c =
     let a = c.args in
     let s = a.self.now.pool.now in
     let names = numbers_at 2 s a.list.at a.list.count in
-    let keys = map (id_of s a.self.now.places.now a.kind) names in
+    let keys = map (id_of s a.self.now.places.now (type_number a.kind)) names in
     let gathered = c.ids_of-ids.ensures.0 in
     sym (repeat_fine (code_number a.code) names keys (length (take a.list.count c.ids_of-ids.result)) (c.in-None.ensures.place ∙ ap (first_repeat []) gathered) (omega (arith, ap length gathered)))
