@@ -48,9 +48,9 @@ pub returns-clause-verdict_value : goal.returns-clause-verdict_value
 unfolding rules_of first_of
 returns-clause-verdict_value c =
     let there = rw c.in-Some.is at c.requires.base_in in
-    let version = ap (λ (h : BaseHead). h.version) c.base_at.ensures in
+    let two = ap (λ (h : BaseHead). h.version) c.base_at.ensures in
     rw c.in-Some.is
     (pass_by _ _ _ _ _ (lt-leb _ _ there.1)
     (pass _ _ _ c.in_ok-numbers_fault.ensures
-    (pass_by _ _ _ _ _ (ap not (eq-eqb _ _ (sym version ∙ c.if-base_at-ne2.false)))
+    (pass_by _ _ _ _ _ (ap not (eq-eqb _ _ (sym two ∙ c.if-base_at-ne2.false)))
     (pass _ _ _ c.in_ok-label_fault.ensures refl))))
