@@ -67,5 +67,5 @@ pub fn is_at(s: &[u8], at: usize) -> bool
     if s.len() <= at {
         return false;
     }
-    pool::stage_one::code_at(s, at) == 0x00
+    pool::stage_one::code_at(s, at).is_ok()
 }

@@ -1,14 +1,16 @@
 -- The laws of the walk of stage one: what is known of an object without a fault, where the base stands that is met first, and what holds at each turn.
 use Prim.Native.Nat.{ℕ, suc, ◌+◌, ◌*◌, ◌≤◌, ◌<◌}
 use native.Mathlib.Omega.{arith}
-use mathlib.Core.Path.{◌≡◌, refl, ◌∙◌}
+use mathlib.Core.Path.{◌≡◌, refl, sym, ◌∙◌}
 use mathlib.Core.List.{List, [], ◌∷◌, ◌++◌}
-use mathlib.Core.Bool.{Bool, true, false, not, ◌&&◌, and-false}
+use mathlib.Core.Bool.{Bool, true, false, not, ◌&&◌, and-false, true≢false}
 use lib.Dec.{ltb, eqb}
 use lib.ListN.{length, take, set, length-set}
 use borrow.Author.Tests.{le-ltb, lt-ltb, ltb-true, ltb-false, eq-eqb, ne_eqb}
 use Rattle.octets.specs.Pick.{pick}
-use Rattle.octets.proofs.Tests.{pick_both, pick_false}
+use Rattle.std.specs.Prelude.{Option, Some, None, IfSome, unwrap_or}
+use Rattle.std.specs.Option.{is_some}
+use Rattle.octets.proofs.Tests.{pick_both, pick_true, pick_false}
 use Rattle.pool.specs.Verdicts.{first_fault}
 use Rattle.pool.specs.{declared.BaseHead.BaseHead, declared.FunctionHead.FunctionHead, declared.StateHead.StateHead}
 use Rattle.pool.specs.Fields.{kind_at, base_type, function_type, state_type, base_at, function_at, state_at, head_at}
@@ -56,6 +58,22 @@ right_where_fine false = refl
 pub no_base : (s : List ℕ) (at k b : ℕ) → kind_at s at ≡ suc k → base_from s at b ≡ b
 unfolding is_object
 no_base s at k b e = pick_false _ at b (simp (ne_eqb (kind_at s at) base_type (λ z. omega (arith, e)), and-false))
+
+-- the base that is met first, this object taken in
+module _ (s : List ℕ) (at : ℕ) where
+  pub met_before : (base : Option ℕ) → is_some base ≡ true → IfSome base (λ b. b < length s) → unwrap_or base (length s) ≡ base_from s at (unwrap_or base (length s))
+  met_before None e h = absurd (true≢false (sym e))
+  met_before (Some b) e h =
+      let n : eqb b (length s) ≡ false = ne_eqb b (length s) (λ m. omega arith) in
+      sym (pick_false _ at b (rw n))
+
+  pub met_here : (base : Option ℕ) → is_some base ≡ false → is_object s base_type 0 at ≡ true → at ≡ base_from s at (unwrap_or base (length s))
+  met_here None e h = sym (pick_true _ at (length s) (rw (eq-eqb (length s) (length s) refl, h)))
+  met_here (Some b) e h = absurd (true≢false e)
+
+  pub met_not_here : (base : Option ℕ) → is_some base ≡ false → is_object s base_type 0 at ≡ false → length s ≡ base_from s at (unwrap_or base (length s))
+  met_not_here None e h = sym (pick_false _ at (length s) (simp (h, and-false)))
+  met_not_here (Some b) e h = absurd (true≢false e)
 
 -- ---- a state
 

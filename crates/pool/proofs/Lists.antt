@@ -1,21 +1,19 @@
--- Lists that are read off a pool and gathered in an array, the first of a list at which a test holds, and whether a number is in a list.
+-- Lists that are read off a pool and gathered in an array, and the first of a list at which a test holds.
 use Prim.Native.Nat.{ℕ, zero, suc, ◌+◌, ◌-◌, ◌*◌, ◌≤◌, ◌<◌}
 use native.Mathlib.Numerals.{add-one}
 use native.Mathlib.Omega.{arith}
 use mathlib.Core.Path.{◌≡◌, refl, sym, ap, ◌∙◌}
 use mathlib.Core.List.{List, [], ◌∷◌, map}
-use mathlib.Core.Bool.{Bool, true, false}
+use mathlib.Core.Bool.{Bool, true, false, true≢false}
+use Rattle.std.specs.Prelude.{Option, Some, None, IfSome, unwrap_or}
+use Rattle.std.specs.Option.{is_some}
 use lib.ListN.{length, get_or, take, drop, set, replicate, length-map, drop_of_length-le}
 use lib.Seq.{drop-cons, drop-drop, drop-set-lt, take-suc, take-suc-set, take_all}
-use borrow.Author.Tests.{eq-eqb, ne_eqb}
 use Rattle.octets.specs.Pick.{pick}
 use Rattle.octets.specs.Octets.{number_at}
 use Rattle.octets.proofs.Laws.{number_one}
-use Rattle.pool.specs.declared.Verdict.{Verdict}
-use Rattle.pool.specs.Verdicts.{fine, first_fault}
 use Rattle.pool.specs.Fields.{numbers_at}
-use Rattle.pool.specs.StageTwo.{find, is_in}
-use Rattle.pool.proofs.Faults.{fault_end, fault_here, fault_next}
+use Rattle.pool.specs.StageTwo.{find}
 
 -- ---- numbers one after the other
 
@@ -36,21 +34,6 @@ pub byte_in : (s : List ℕ) (i k : ℕ) → get_or s (i + k) 0 ≡ number_at 1 
 byte_in s i k =
     let e : i + 1 * k ≡ i + k = omega arith in
     sym (number_one s (i + k)) ∙ ap (number_at 1 s) (sym e)
-
--- the first fault of such a list from its number k on, which is n
-module _ (f : ℕ → Verdict) (w : ℕ) (s : List ℕ) (i count k : ℕ) where
-  pub list_end : count ≤ k → first_fault f (drop k (numbers_at w s i count)) ≡ fine
-  list_end h = fault_end f (numbers_at w s i count) k (omega (arith, length_numbers w s i count))
-
-  module _ (h : k < count) (n : ℕ) (e : n ≡ number_at w s (i + w * k)) (v : Verdict) (is : f n ≡ v) where
-    says : f (get_or (numbers_at w s i count) k 0) ≡ v
-    says = ap f (number_in w s i count k h ∙ sym e) ∙ is
-
-    pub list_here : (v.code ≡ 0 → ⊥) → first_fault f (drop k (numbers_at w s i count)) ≡ v
-    list_here z = fault_here f (numbers_at w s i count) k v (omega (arith, length_numbers w s i count)) says z
-
-    pub list_next : v.code ≡ 0 → first_fault f (drop k (numbers_at w s i count)) ≡ first_fault f (drop (k + 1) (numbers_at w s i count))
-    list_next z = fault_next f (numbers_at w s i count) k v (omega (arith, length_numbers w s i count)) says z
 
 -- ---- gathered: the first k elements are there, and the next is stored
 
@@ -96,17 +79,12 @@ module _ (f : ℕ → Bool) (l : List ℕ) (d k : ℕ) where
   unfolding find pick
   find_next h e = rw (add-one, drop-cons l k 0, e)
 
--- ---- whether n is in a list, from element k on
+-- ---- whether an object is there
 
-module _ (n : ℕ) (l : List ℕ) (k : ℕ) where
-  pub in_end : length l ≤ k → is_in n (drop k l) ≡ false
-  unfolding is_in
-  in_end h = ap (is_in n) (drop_of_length-le l h)
+pub nowhere : (o : Option ℕ) (d : ℕ) → is_some o ≡ false → unwrap_or o d ≡ d
+nowhere None d e = refl
+nowhere (Some p) d e = absurd (true≢false e)
 
-  pub in_here : k < length l → get_or l k 0 ≡ n → is_in n (drop k l) ≡ true
-  unfolding is_in
-  in_here h e = rw (drop-cons l k 0, eq-eqb _ _ e)
-
-  pub in_next : k < length l → (get_or l k 0 ≡ n → ⊥) → is_in n (drop k l) ≡ is_in n (drop (k + 1) l)
-  unfolding is_in
-  in_next h e = rw (add-one, drop-cons l k 0, ne_eqb _ _ e)
+pub somewhere : (o : Option ℕ) (d : ℕ) → is_some o ≡ true → IfSome o (λ p. p + 8 ≤ d) → unwrap_or o d < d
+somewhere None d e h = absurd (true≢false (sym e))
+somewhere (Some p) d e h = omega arith

@@ -4,7 +4,7 @@ use native.Mathlib.Numerals.{add-one}
 use native.Mathlib.Omega.{arith}
 use mathlib.Core.Path.{◌≡◌, refl, sym, ap, ◌∙◌}
 use mathlib.Core.List.{List, [], ◌∷◌, ◌++◌}
-use mathlib.Core.Bool.{Bool, true, false, ◌||◌, true≢false}
+use mathlib.Core.Bool.{Bool, true, false, not, ◌||◌, true≢false}
 use lib.Dec.{eqb, ltb}
 use lib.ListN.{length, get_or, take, drop, set, drop_of_length-le, get_or-replicate, replicate}
 use lib.Seq.{drop-cons, take-suc, get_or-set_same, get_or-set_other}
@@ -14,6 +14,7 @@ use Rattle.octets.specs.Bits.{has_bit, with_bit, bits_of}
 use Rattle.octets.proofs.BitLaws.{has_with, has_none}
 use Rattle.pool.specs.Verdicts.{verdict, fine}
 use Rattle.pool.specs.StageTwo.{is_in, first_repeat, repeat_fault}
+use Rattle.pool.specs.Search.Seen.{Holds}
 
 -- ---- from key k on
 
@@ -41,10 +42,7 @@ module _ (code : ℕ) (names keys : List ℕ) (k : ℕ) (e : k ≡ first_repeat 
 
 -- ---- the keys seen, a bit for each
 
-abbrev pub Seen : List ℕ → List ℕ → Type 0
-Seen bits l = (n : ℕ) → n < 65536 → has_bit (get_or bits (n / 64) 0) (n % 64) ≡ is_in n l
-
-pub seen_none : Seen (replicate 1024 0) []
+pub seen_none : Holds (replicate 1024 0) []
 unfolding is_in
 seen_none n h = rw (get_or-replicate {A = ℕ} 1024 (n / 64) 0 0 (omega arith)) (has_none (n % 64))
 
@@ -69,11 +67,20 @@ unfolding is_in
 in_snoc x y [] = or_false (eqb y x)
 in_snoc x y (z ∷ l) = rw (in_snoc x y l) (or_assoc (eqb z x) (is_in x l) (eqb y x))
 
+-- what is told of a key: whether it is new
+pub stood : (b new : Bool) → new ≡ not b → new ≡ false → b ≡ true
+stood true new e f = refl
+stood false new e f = absurd (true≢false (sym e ∙ f))
+
+pub fresh : (b new : Bool) → new ≡ not b → new ≡ true → b ≡ false
+fresh true new e f = absurd (true≢false (sym f ∙ e))
+fresh false new e f = refl
+
 -- one key more
 abbrev pub marked : List ℕ → ℕ → List ℕ
 marked bits key = set bits (key / 64) (with_bit (get_or bits (key / 64) 0) (key % 64))
 
-module _ (bits l : List ℕ) (key : ℕ) (wide : length bits ≡ 1024) (small : key < 65536) (seen : Seen bits l) where
+module _ (bits l : List ℕ) (key : ℕ) (wide : length bits ≡ 1024) (small : key < 65536) (seen : Holds bits l) where
   module _ (n : ℕ) (h : n < 65536) where
     with_same : n / 64 ≡ key / 64 → has_bit (get_or (marked bits key) (n / 64) 0) (n % 64) ≡ (eqb (key % 64) (n % 64) || is_in n l)
     with_same e =
@@ -93,7 +100,7 @@ module _ (bits l : List ℕ) (key : ℕ) (wide : length bits ≡ 1024) (small : 
         let e : eqb key n ≡ false = ne_eqb key n (λ m. d (ap (λ (x : ℕ). x / 64) (sym m))) in
         rw (get_or-set_other bits (key / 64) (n / 64) (with_bit (get_or bits (key / 64) 0) (key % 64)) 0 d, seen n h, in_snoc n key l, e) (sym (or_false (is_in n l)))
 
-  pub seen_more : Seen (marked bits key) (l ++ key ∷ [])
+  pub seen_more : Holds (marked bits key) (l ++ key ∷ [])
   seen_more n h = go (eqb (n / 64) (key / 64)) refl
     where
       go : (b : Bool) → eqb (n / 64) (key / 64) ≡ b → has_bit (get_or (marked bits key) (n / 64) 0) (n % 64) ≡ is_in n (l ++ key ∷ [])

@@ -1,5 +1,7 @@
 pub mod Verdicts
+pub mod Faults
 pub mod Fields
+pub mod Types
 pub mod Ranges
 pub mod StageOne
 pub mod StageTwo

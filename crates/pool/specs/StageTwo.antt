@@ -1,5 +1,6 @@
 -- 01, "The pool": "Stage two, each over the whole pool: .." `ps` are the places of the pool's objects, in order, and `b` that of its base.
-use Rattle.std.specs.Prelude.{ℕ, suc, List, [], ◌∷◌, ◌++◌, map, Bool, false, not, ◌&&◌, ◌||◌, length, get_or, take, ltb, leb, eqb}
+use Rattle.std.specs.Prelude.{ℕ, suc, List, [], ◌∷◌, ◌++◌, map, Bool, not, ◌&&◌, ◌||◌, length, get_or, take, ltb, leb, eqb}
+use Rattle.std.specs.List.{list_any}
 use Rattle.octets.specs.{Pick.pick, declared.label.Label.Label}
 use Rattle.pool.specs.declared.Verdict.{Verdict}
 use Rattle.pool.specs.Verdicts.{fault, first_of, first_fault}
@@ -38,8 +39,7 @@ states_listed s ps n = states_of s (object_of s ps function_type n)
 
 -- k is one of a list
 unfoldable pub is_in : ℕ → List ℕ → Bool
-is_in k [] = false
-is_in k (x ∷ xs) = eqb x k || is_in k xs
+is_in k xs = list_any (λ x. eqb x k) xs
 
 -- where the first key stands that stood before, after the keys of `seen`; the number of keys where none did
 unfoldable pub first_repeat : List ℕ → List ℕ → ℕ

@@ -1,6 +1,6 @@
 // An object's length and the fields of its fixed part, by its place. Places are below 65,536.
-ghost use Rattle.std.specs.Prelude.{◌≡◌, ◌+◌, ◌≤◌, ◌<◌, length};
-ghost use Rattle.pool.specs.Fields.{object_number, kind_at, id_at, base_at, function_at, state_at, head_at, fixed_of, rest_at, size_at, version_label, configuration_label};
+ghost use Rattle.std.specs.Prelude.{◌≡◌, ◌+◌, ◌≤◌, ◌<◌, length, get_or};
+ghost use Rattle.pool.specs.Fields.{object_number, kind_at, id_at, base_at, function_at, state_at, head_at, fixed_of, rest_at, size_at, version_label, configuration_label, numbers_at, functions_of, states_of};
 
 use crate::{
     BASE_FIXED, BASE_TYPE, BaseHead, FUNCTION_FIXED, FUNCTION_TYPE, FunctionHead, Head,
@@ -186,4 +186,44 @@ pub fn configuration_label(s: &[u8], b: usize) -> Label
 {
     let base = base_at(s, b);
     label_at(s, b + BASE_FIXED + base.n as usize, base.m)
+}
+
+// A list of count numbers, of two bytes each, at a place.
+#[derive(Clone, Copy)]
+pub struct Listed {
+    pub at: usize,
+    pub count: usize,
+    pub ghost bounded: { (at < 131072) × (count ≤ 255) },
+}
+
+impl Listed {
+    pub fn number(self, s: &[u8], k: usize) -> u16
+        requires { k < self.count }
+        ensures { result ≡ get_or (numbers_at 2 s.now self.at self.count) k 0 }
+    {
+        u16_at(s, self.at + 2 * k)
+    }
+}
+
+// The functions that the base at a place lists.
+pub fn functions_of(s: &[u8], b: usize) -> Listed
+    requires { b < 65536 }
+    ensures { numbers_at 2 s.now result.at result.count ≡ functions_of s.now b }
+{
+    let base = base_at(s, b);
+    Listed {
+        at: b + BASE_FIXED + base.n as usize + base.m as usize,
+        count: base.o as usize,
+    }
+}
+
+// The states that the function at a place lists.
+pub fn states_of(s: &[u8], f: usize) -> Listed
+    requires { f < 65536 }
+    ensures { numbers_at 2 s.now result.at result.count ≡ states_of s.now f }
+{
+    Listed {
+        at: f + FUNCTION_FIXED,
+        count: state_count(s, f) as usize,
+    }
 }

@@ -3,10 +3,14 @@
 
 pub mod fields;
 pub mod ranges;
+pub mod seen;
 pub mod stage_one;
 pub mod stage_two;
+pub mod verdicts;
 
-ghost use Rattle.std.specs.Prelude.{◌≡◌, ◌≤◌, length, take};
+ghost use Rattle.std.specs.Prelude.{◌≡◌, ◌≤◌, length, take, IfOk};
+ghost use Rattle.pool.specs.Faults.{said};
+ghost use Rattle.pool.specs.Types.{type_number, IsType};
 ghost use Rattle.pool.specs.Verdicts.{first, first_of};
 ghost use Rattle.pool.specs.StageOne.{stage_one};
 ghost use Rattle.pool.specs.Search.Walk.{Walks, rules};
@@ -15,7 +19,8 @@ ghost use Rattle.pool.specs.Cases.{Cases};
 ghost use Rattle.pool.specs.Codes.{Codes};
 ghost use Rattle.pool.specs.Edges.{Edges};
 
-use crate::stage_one::Walked;
+use crate::stage_two::Index;
+use crate::verdicts::{Code, Fault, TOO_LONG, said};
 
 // A code of D.9, 0 for success, and the number of the object it is about.
 #[repr(C)]
@@ -31,18 +36,43 @@ pub const FINE: Verdict = Verdict {
     object: 0xFFFF,
 };
 
-// "At most 16,384 bytes; more gives FF, object FFFF."
-pub const TOO_LONG: Verdict = Verdict {
-    code: 0xFF,
-    object: 0xFFFF,
-};
-
 // The types of objects: byte 3 of tables A.1 to A.3.
-pub const BASE_TYPE: u8 = 0;
+#[derive(Clone, Copy, Debug, PartialEq, Eq)]
+pub enum ObjectType {
+    Base = 0,
+    Function = 1,
+    State = 2,
+}
 
-pub const FUNCTION_TYPE: u8 = 1;
+impl ObjectType {
+    pub fn number(self) -> u8
+        ensures { result ≡ type_number self }
+    {
+        self as u8
+    }
+}
 
-pub const STATE_TYPE: u8 = 2;
+impl TryFrom<u8> for ObjectType {
+    type Error = Code;
+
+    ghost try_from_gives = { IsType };
+
+    fn try_from(number: u8) -> Result<ObjectType, Code> {
+        match number {
+            0 => Ok(ObjectType::Base),
+            1 => Ok(ObjectType::Function),
+            2 => Ok(ObjectType::State),
+            _ => Err(Code::UnknownType),
+        }
+    }
+}
+
+// As the byte that a pool has: a byte that is none of the three is compared too.
+pub const BASE_TYPE: u8 = ObjectType::Base as u8;
+
+pub const FUNCTION_TYPE: u8 = ObjectType::Function as u8;
+
+pub const STATE_TYPE: u8 = ObjectType::State as u8;
 
 // How many bytes the fixed part of each has.
 pub const BASE_FIXED: usize = 27;
@@ -99,43 +129,47 @@ pub enum Head {
     State(StateHead),
 }
 
-// The walk of stage one and, where it finds no fault, the rules that need no list: then their verdict stands in the place of stage one's.
-pub fn before_lists(pool: &[u8], places: &mut [u16]) -> Walked
+// How many objects there are, and where the base stands.
+#[derive(Clone, Copy)]
+pub struct Walked {
+    pub count: usize,
+    pub base: usize,
+}
+
+// The walk of stage one and, where it finds no fault, the rules that need no list.
+pub fn before_lists(pool: &[u8], places: &mut [u16]) -> Result<Walked, Fault>
     requires { (length pool.now ≤ 16384) × (length places.old ≡ 2048) }
-    ensures verdict_value { result.verdict ≡ first (stage_one pool.now) (first_of (take 4 (rules pool.now))) }
-    ensures walks { result.verdict.code ≡ 0x00 → Walks pool.now places.new result.count result.base }
+    ensures verdict_value { said result ≡ first (stage_one pool.now) (first_of (take 4 (rules pool.now))) }
+    ensures walks { IfOk result (λ walked. Walks pool.now places.new walked.count walked.base) }
 {
-    let one = stage_one::stage_one(pool, places);
-    if one.verdict.code != 0x00 {
-        return one;
+    let met = stage_one::stage_one(pool, places)?;
+    let base = stage_two::objects_fault(pool, &places[..met.count], met.base)?;
+    Ok(Walked {
+        count: met.count,
+        base,
+    })
+}
+
+// The first fault of any bytes at all.
+fn first_fault(pool: &[u8]) -> Result<(), Fault>
+    ensures { said result ≡ verdict_of pool.now }
+{
+    if 16384 < pool.len() {
+        return Err(TOO_LONG);
     }
-    let count = one.count;
-    let verdict = stage_two::objects_fault(pool, &places[..count], one.base);
-    Walked {
-        verdict,
-        count,
-        base: one.base,
-    }
+    let mut places = [0u16; 2048];
+    let walked = before_lists(pool, &mut places)?;
+    let mut chain = [0xFFFFu16; 18432];
+    let index = Index::new(pool, &places[..walked.count], &mut chain);
+    index.lists_fault(walked.base)?;
+    Ok(())
 }
 
 // The verdict on any bytes at all.
 pub fn check(pool: &[u8]) -> Verdict
     ensures { result ≡ verdict_of pool.now }
 {
-    if 16384 < pool.len() {
-        return TOO_LONG;
-    }
-    let mut places = [0u16; 2048];
-    let walked = before_lists(pool, &mut places);
-    if walked.verdict.code != 0x00 {
-        return walked.verdict;
-    }
-    let count = walked.count;
-    let ps = &places[..count];
-    let mut chain = [0xFFFFu16; 18432];
-    stage_two::chain_of(pool, ps, &mut chain);
-    let lists = stage_two::lists_fault(pool, ps, &chain, walked.base);
-    lists.verdict
+    said(first_fault(pool))
 }
 
 // The worked cases of document 01 that concern pools hold of the definition: nothing is done, the contract says so.

@@ -22,14 +22,14 @@ fn names_right(name: u16, picture: u16) -> bool
     (name != 0xFFFF) & (picture != 0xFFFF)
 }
 
-pub fn base_right(h: BaseHead) -> bool
-    ensures { result ≡ base_right h }
+pub fn base_right(h: &BaseHead) -> bool
+    ensures { result ≡ base_right h.now }
 {
     (h.number == 0) & (h.version <= 2) & (1 <= h.o) & names_right(h.name, h.picture)
 }
 
-pub fn state_right(h: StateHead) -> bool
-    ensures { result ≡ state_right h }
+pub fn state_right(h: &StateHead) -> bool
+    ensures { result ≡ state_right h.now }
 {
     number_right(h.number) & (h.state <= 63) & names_right(h.name, h.picture)
 }
@@ -46,8 +46,8 @@ fn scale_right(bits: u32) -> bool
     (1 <= bits) & (bits <= 0x7F7FFFFF)
 }
 
-fn unshown_right(h: FunctionHead) -> bool
-    ensures { result ≡ unshown_right h }
+fn unshown_right(h: &FunctionHead) -> bool
+    ensures { result ≡ unshown_right h.now }
 {
     (h.minimum == 0xFFFFFFFF)
         & (h.maximum == 0xFFFFFFFF)
@@ -57,14 +57,14 @@ fn unshown_right(h: FunctionHead) -> bool
         & (h.unit == 0xFFFF)
 }
 
-fn shown_right(h: FunctionHead) -> bool
-    ensures { result ≡ shown_right h }
+fn shown_right(h: &FunctionHead) -> bool
+    ensures { result ≡ shown_right h.now }
 {
     scale_right(h.scale) & (h.decimals <= 7) & (h.unit != 0xFFFF)
 }
 
-fn value_right(h: FunctionHead) -> bool
-    ensures { result ≡ value_right h }
+fn value_right(h: &FunctionHead) -> bool
+    ensures { result ≡ value_right h.now }
 {
     if h.attribute == 0 {
         return unshown_right(h);
@@ -75,8 +75,8 @@ fn value_right(h: FunctionHead) -> bool
     (h.attribute == 2) & (h.minimum <= h.maximum) & shown_right(h)
 }
 
-pub fn function_right(h: FunctionHead) -> bool
-    ensures { result ≡ function_right h }
+pub fn function_right(h: &FunctionHead) -> bool
+    ensures { result ≡ function_right h.now }
 {
     let others = number_right(h.number)
         & trigger_right(h.trigger)
@@ -93,8 +93,8 @@ pub fn head_right(h: Head) -> bool
     ensures { result ≡ head_right h }
 {
     match h {
-        Head::Base(b) => base_right(b),
-        Head::Function(f) => function_right(f),
-        Head::State(s) => state_right(s),
+        Head::Base(b) => base_right(&b),
+        Head::Function(f) => function_right(&f),
+        Head::State(s) => state_right(&s),
     }
 }

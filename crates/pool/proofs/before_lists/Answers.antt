@@ -1,35 +1,42 @@
--- `pool::before_lists` meets its contract: the first verdict with a fault is the one returned.
+-- `pool::before_lists` meets its contract: the first fault is the one returned.
 use native.Mathlib.Omega.{arith}
 use mathlib.Core.Path.{sym, ap, ◌∙◌}
 use mathlib.Core.List.{List}
 use lib.ListN.{take}
 use lib.Seq.{length-take-le}
+use Rattle.std.proofs.lemmas.Option.{IfSome_then}
+use Rattle.std.proofs.lemmas.Result.{err_from_is_err_and}
 use Rattle.pool.specs.declared.Verdict.{Verdict}
 use Rattle.pool.specs.Verdicts.{first_of}
-use Rattle.pool.proofs.Faults.{first_fault_lem, first_fine}
+use Rattle.pool.proofs.Faults.{stop, pass}
 use Rattle.pool.proofs.Stages.{walked_rules}
 use Rattle.pool.proofs.before_lists.Goals as goal
 
-pub returns-then-one-ne0 : goal.returns-then-one-ne0
-returns-then-one-ne0 c =
-    let e = c.stage_one-one.ensures.verdict_value in
-    record { verdict_value = e ∙ sym (first_fault_lem _ _ (λ z. c.if-one-ne0.true (ap (λ (v : Verdict). v.code) e ∙ z))); walks = λ z. absurd (c.if-one-ne0.true z) }
+pub returns-in_err-met-clause-verdict_value : goal.returns-in_err-met-clause-verdict_value
+returns-in_err-met-clause-verdict_value c =
+    let p = err_from_is_err_and c.from_residual.result c.from_residual.ensures.1 in
+    rw (p.1, p.2) (stop _ _ _ c.in_err-met.ensures.verdict_value)
 
 -- stage one has found no fault: the places and the base are the pool's
 pub slice_bounds-objects_fault-end : goal.slice_bounds-objects_fault-end
-slice_bounds-objects_fault-end c = let w = c.stage_one-one.ensures.walks c.if-one-ne0.false in omega (arith, w.few)
+slice_bounds-objects_fault-end c = let w = c.in_ok-met.ensures.walks in omega (arith, w.few)
 
 pub slice_bounds-objects_fault-end-2 : goal.slice_bounds-objects_fault-end-2
-slice_bounds-objects_fault-end-2 c = let w = c.stage_one-one.ensures.walks c.if-one-ne0.false in sym (length-take-le _ _ (omega (arith, w.few)))
+slice_bounds-objects_fault-end-2 c = let w = c.in_ok-met.ensures.walks in sym (length-take-le _ _ (omega (arith, w.few)))
 
-pub objects_fault-verdict-requires : goal.objects_fault-verdict-requires
-objects_fault-verdict-requires c = let w = c.stage_one-one.ensures.walks c.if-one-ne0.false in (w.within, omega (arith, w.reached))
+pub objects_fault-requires : goal.objects_fault-requires
+objects_fault-requires c =
+    let met = c.in_ok-met.ensures in
+    record { places_in = met.walks.within; base_in = IfSome_then c.in_ok-met.met.base met.within (λ b h. (omega arith, h)) }
 
-pub returns : goal.returns
-returns c =
-    let e = ap (λ (v : Verdict). v.code) c.stage_one-one.ensures.verdict_value in
-    let w = c.stage_one-one.ensures.walks c.if-one-ne0.false in
-    record {
-      verdict_value = c.objects_fault-verdict.ensures ∙ ap (λ (vs : List Verdict). first_of (take 4 vs)) (walked_rules _ _ _ _ w) ∙ sym (first_fine _ _ (sym e ∙ c.if-one-ne0.false));
-      walks = λ _. w;
-    }
+pub returns-in_err-base-clause-verdict_value : goal.returns-in_err-base-clause-verdict_value
+returns-in_err-base-clause-verdict_value c =
+    let w = c.in_ok-met.ensures.walks in
+    let p = err_from_is_err_and c.from_residual-in_err-base.result c.from_residual-in_err-base.ensures.1 in
+    rw (p.1, p.2)
+    (pass _ _ _ c.in_ok-met.ensures.verdict_value (c.in_err-base.ensures.verdict_value ∙ ap (λ (vs : List Verdict). first_of (take 4 vs)) (walked_rules _ _ _ _ w)))
+
+pub returns-clause-verdict_value : goal.returns-clause-verdict_value
+returns-clause-verdict_value c =
+    let w = c.in_ok-met.ensures.walks in
+    pass _ _ _ c.in_ok-met.ensures.verdict_value (c.in_ok-base.ensures.verdict_value ∙ ap (λ (vs : List Verdict). first_of (take 4 vs)) (walked_rules _ _ _ _ w))

@@ -1,80 +1,51 @@
--- `profile::judge` meets its contract: the first verdict with a fault is the one returned, and where there is none, what is kept is the pool's.
+-- `profile::judge` meets its contract: the first fault is the one returned, and where there is none, what is kept is the pool's.
 use native.Mathlib.Omega.{arith}
-use mathlib.Core.Path.{◌≡◌, refl, sym, ap, ◌∙◌}
-use mathlib.Core.List.{List}
-use lib.ListN.{length, take, drop}
-use Prim.Native.Nat.{ℕ, ◌<◌, ◌≤◌}
+use mathlib.Core.Path.{refl, sym, ◌∙◌}
 use lib.Seq.{length-take-le}
-use borrow.Author.Tests.{lt-ltb}
-use Rattle.octets.specs.Pick.{pick}
-use Rattle.pool.specs.declared.Verdict.{Verdict}
-use Rattle.pool.specs.Verdicts.{verdict, first, first_of}
-use Rattle.pool.specs.Search.Walk.{Walks, rules}
-use Rattle.pool.specs.StageOne.{stage_one}
-use Rattle.pool.specs.StageTwo.{rules_of}
-use Rattle.pool.specs.Pool.{verdict_of}
-use Rattle.pool.proofs.Stages.{verdict_early, verdict_lists, walked_rules}
+use Rattle.std.proofs.lemmas.Result.{err_from_is_err_and}
+use Rattle.pool.specs.Faults.{fault_verdict}
+use Rattle.pool.specs.Verdicts.{fine}
+use Rattle.pool.proofs.Faults.{code_not_zero}
+use Rattle.pool.proofs.Stages.{verdict_early, verdict_listed, verdict_long}
 use Rattle.profile.specs.Profile.{kept_of_pool}
 use Rattle.profile.proofs.Laws.{refused_profile, kept_profile}
 use Rattle.profile.proofs.judge.Goals as goal
 
-too_long : (s : List ℕ) → 16384 < length s → verdict 0xFF 0xFFFF ≡ verdict_of s
-unfolding verdict_of pick
-too_long s h = rw (lt-ltb _ _ h)
-
--- what is found in the lists is the verdict on the pool, where no fault has been found before them
-listed :
-    (s places : List ℕ) (n b : ℕ) (early found : Verdict)
-    → length s ≤ 16384 → Walks s places n b → early ≡ first (stage_one s) (first_of (take 4 (rules s))) → early.code ≡ 0
-    → found ≡ first_of (drop 4 (rules_of s (take n places) b)) → found ≡ verdict_of s
-listed s places n b early found short w e fine f =
-    f ∙ ap (λ (vs : List Verdict). first_of (drop 4 vs)) (walked_rules s places n b w) ∙ verdict_lists s short early e fine
-
 pub returns-then-pool-gt16384 : goal.returns-then-pool-gt16384
 returns-then-pool-gt16384 c =
-    let e = too_long c.args.pool.now c.if-pool-gt16384.true in
-    (c.refused.ensures.0 ∙ e, c.refused.ensures.1 ∙ refused_profile _ _ e (λ z. omega arith))
+    let e = verdict_long c.args.pool.now c.if-pool-gt16384.true in
+    record { verdict_value = e; profile_value = refused_profile _ _ e (λ z. omega arith) }
 
-pub returns-then-walked-ne0 : goal.returns-then-walked-ne0
-returns-then-walked-ne0 c =
-    let n = c.if-walked-ne0.true in
-    let e = verdict_early _ (omega arith) _ c.before_lists-walked.ensures.verdict_value n in
-    (c.refused-then-walked-ne0.ensures.0 ∙ e, c.refused-then-walked-ne0.ensures.1 ∙ refused_profile _ _ e n)
+pub returns-in_err-walked : goal.returns-in_err-walked
+returns-in_err-walked c =
+    let p = err_from_is_err_and c.from_residual.result c.from_residual.ensures.1 in
+    let f = c.in_err-walked.field-0.0 in
+    let e = verdict_early c.args.pool.now (omega arith) (fault_verdict f) c.in_err-walked.ensures.verdict_value (code_not_zero f.code) in
+    record { verdict_value = rw (p.1, p.2) e; profile_value = rw p.1 (refused_profile _ _ e (code_not_zero f.code)) }
 
-pub slice_bounds-places-end : goal.slice_bounds-places-end
-slice_bounds-places-end c = let w = c.before_lists-walked.ensures.walks c.if-walked-ne0.false in omega (arith, w.few)
+-- no fault has been found: the places and the base are the pool's
+pub slice_bounds-new-end : goal.slice_bounds-new-end
+slice_bounds-new-end c = sym (length-take-le _ _ (omega (arith, c.in_ok-walked.ensures.walks.few)))
 
-pub slice_bounds-ps-end : goal.slice_bounds-ps-end
-slice_bounds-ps-end c = let w = c.before_lists-walked.ensures.walks c.if-walked-ne0.false in sym (length-take-le _ _ (omega (arith, w.few)))
+pub new-index-requires : goal.new-index-requires
+new-index-requires c =
+    let w = c.in_ok-walked.ensures.walks in
+    (omega arith, omega (arith, w.few, length-take-le c.in_ok-walked.walked.count c.before_lists.new.places (omega (arith, w.few))), w.within, refl)
 
-pub chain_of-requires : goal.chain_of-requires
-chain_of-requires c =
-    let w = c.before_lists-walked.ensures.walks c.if-walked-ne0.false in
-    (omega arith, omega (arith, w.few, length-take-le c.before_lists-walked.result.count c.before_lists-walked.new.places (omega (arith, w.few))), w.within, refl)
-
-pub slice_bounds-lists_fault-end : goal.slice_bounds-lists_fault-end
-slice_bounds-lists_fault-end c = sym c.chain_of.ensures.long
-
-pub lists_fault-lists-requires : goal.lists_fault-lists-requires
-lists_fault-lists-requires c = let w = c.before_lists-walked.ensures.walks c.if-walked-ne0.false in (c.chain_of.ensures, omega (arith, w.reached))
-
-pub returns-then-lists-ne0 : goal.returns-then-lists-ne0
-returns-then-lists-ne0 c =
-    let w = c.before_lists-walked.ensures.walks c.if-walked-ne0.false in
-    let e = listed _ _ _ _ _ _ (omega arith) w c.before_lists-walked.ensures.verdict_value c.if-walked-ne0.false c.lists_fault-lists.ensures.verdict_value in
-    (c.refused-then-lists-ne0.ensures.0 ∙ e, c.refused-then-lists-ne0.ensures.1 ∙ refused_profile _ _ e c.if-lists-ne0.true)
-
-pub slice_bounds-kept_at-end : goal.slice_bounds-kept_at-end
-slice_bounds-kept_at-end c = sym c.chain_of.ensures.long
-
-pub kept_at-profile-requires : goal.kept_at-profile-requires
-kept_at-profile-requires c =
-    let w = c.before_lists-walked.ensures.walks c.if-walked-ne0.false in
-    (c.chain_of.ensures, omega (arith, w.reached), c.lists_fault-lists.ensures.sets c.if-lists-ne0.false)
+pub returns-in_err-sets : goal.returns-in_err-sets
+returns-in_err-sets c =
+    let p = err_from_is_err_and c.from_residual-in_err-sets.result c.from_residual-in_err-sets.ensures.1 in
+    let w = c.in_ok-walked.ensures in
+    let f = c.in_err-sets.field-0.0 in
+    let e = verdict_listed _ _ _ _ (fault_verdict f) (omega arith) w.walks w.verdict_value (rw (c.new-index.ensures.0, c.new-index.ensures.1) at c.in_err-sets.ensures.verdict_value) in
+    record { verdict_value = rw (p.1, p.2) e; profile_value = rw p.1 (refused_profile _ _ e (code_not_zero f.code)) }
 
 pub returns : goal.returns
 unfolding kept_of_pool
 returns c =
-    let w = c.before_lists-walked.ensures.walks c.if-walked-ne0.false in
-    let e = listed _ _ _ _ _ _ (omega arith) w c.before_lists-walked.ensures.verdict_value c.if-walked-ne0.false c.lists_fault-lists.ensures.verdict_value in
-    (e, c.kept_at-profile.ensures ∙ rw (w.listed, w.base) (kept_profile _ _ e c.if-lists-ne0.false))
+    let w = c.in_ok-walked.ensures in
+    let e = verdict_listed _ _ _ _ fine (omega arith) w.walks w.verdict_value (rw (c.new-index.ensures.0, c.new-index.ensures.1) at c.in_ok-sets.ensures.verdict_value) in
+    record {
+      verdict_value = e;
+      profile_value = c.kept_at.ensures ∙ rw (c.new-index.ensures.0, c.new-index.ensures.1, w.walks.listed, w.walks.base) (kept_profile _ _ e refl);
+    }
