@@ -1,8 +1,8 @@
--- `rewrite::rewrite` meets its contract: the tests that led to a return say which case of the definition holds.
+-- `rewrite::rewrite_checked` meets its contract: the tests that led to a return say which case of the definition holds.
 use borrow.Author.Tests.{lt-ltb, le-ltb, eq-eqb, ne_eqb}
 use Rattle.octets.specs.Pick.{pick}
 use Rattle.rewrite.specs.Rewrite.{rewrite_answer, rewrite_out}
-use Rattle.rewrite.proofs.rewrite.Goals as goal
+use Rattle.rewrite.proofs.rewrite_checked.Goals as goal
 
 pub returns-then-out-pool : goal.returns-then-out-pool
 unfolding rewrite_answer rewrite_out pick
