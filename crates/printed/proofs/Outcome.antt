@@ -10,6 +10,7 @@ use lib.Dec.{T}
 use lib.ListN.{length}
 use lib.Seq.{sets}
 use lib.Ieee.{Float}
+use lib.Ieee.Positive.{positive}
 use Rattle.octets.specs.Numbers.{completed, too_short, wrong_value}
 use Rattle.octets.specs.Pick.{pick}
 use Rattle.shown.specs.Value.{sum_of}
@@ -45,6 +46,9 @@ settled value offset scale decimals lent left left' r r' p q =
     (p.answer ∙ e.0 ∙ sym q.answer, p.leaves ∙ e.1 ∙ sym q.leaves)
 
 -- ---- where the scale or the decimals are refused
+pub bad_scale : (x : Float) (decimals : ℕ) → positive x ≡ false → printable x decimals ≡ false
+bad_scale x decimals e = rw e
+
 pub not_printable : (value : ℕ) (offset : ℤ) (scale : Float) (decimals : ℕ) (lent : List ℕ) (r : Printed) → printable scale decimals ≡ false → r ≡ record { number = wrong_value; length = 0 } → Prints value offset scale decimals lent lent r
 unfolding pick
 not_printable value offset scale decimals lent r e q =

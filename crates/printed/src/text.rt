@@ -33,15 +33,13 @@ pub fn length_of(below: bool, places: usize, decimals: usize) -> usize
 }
 
 // So many digits from the given one on, the highest first, from a place of out on.
-fn put_digits(out: &mut [u8], place: usize, digits: [u8; 56], from: usize, count: usize)
-    requires { (place ≤ 57) × (from + count ≤ 56) × (digits ≡ low_digits 56 (number_in digits)) }
-    ensures { out.new ≡ sets out.old place (last_digits count (number_in digits / 10 ^ from)) }
+fn put_digits(out: &mut [u8], place: usize, digits: &[u8; 56], from: usize, count: usize)
+    requires { (place ≤ 57) × (from + count ≤ 56) × (digits.now ≡ low_digits 56 (number_in digits.now)) }
+    ensures { out.new ≡ sets out.old place (last_digits count (number_in digits.now / 10 ^ from)) }
 {
-    let mut k: usize = 0;
-    while k < count {
+    for k in 0..count {
         let at = from + (count - 1 - k);
         put_byte(out, place + k, ZERO + digits[at] % 10);
-        k += 1;
     }
 }
 
@@ -53,9 +51,9 @@ fn put_sign(out: &mut [u8], below: bool)
     }
 }
 
-fn put_part(out: &mut [u8], place: usize, digits: [u8; 56], decimals: usize)
-    requires { (place + decimals ≤ 57) × (decimals ≤ 7) × (digits ≡ low_digits 56 (number_in digits)) }
-    ensures { out.new ≡ sets out.old place (part_of decimals (number_in digits)) }
+fn put_part(out: &mut [u8], place: usize, digits: &[u8; 56], decimals: usize)
+    requires { (place + decimals ≤ 57) × (decimals ≤ 7) × (digits.now ≡ low_digits 56 (number_in digits.now)) }
+    ensures { out.new ≡ sets out.old place (part_of decimals (number_in digits.now)) }
 {
     if 0 < decimals {
         put_byte(out, place, POINT);
@@ -63,9 +61,9 @@ fn put_part(out: &mut [u8], place: usize, digits: [u8; 56], decimals: usize)
     }
 }
 
-pub fn put(out: &mut [u8], below: bool, places: usize, digits: [u8; 56], decimals: usize)
-    requires { (places + decimals ≤ 56) × (decimals ≤ 7) × (digits ≡ low_digits 56 (number_in digits)) }
-    ensures { out.new ≡ sets out.old 0 (sign_bytes below ++ last_digits places (number_in digits / 10 ^ decimals) ++ part_of decimals (number_in digits)) }
+pub fn put(out: &mut [u8], below: bool, places: usize, digits: &[u8; 56], decimals: usize)
+    requires { (places + decimals ≤ 56) × (decimals ≤ 7) × (digits.now ≡ low_digits 56 (number_in digits.now)) }
+    ensures { out.new ≡ sets out.old 0 (sign_bytes below ++ last_digits places (number_in digits.now / 10 ^ decimals) ++ part_of decimals (number_in digits.now)) }
 {
     let sign = sign_length(below);
     put_sign(out, below);

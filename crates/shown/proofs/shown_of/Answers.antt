@@ -6,20 +6,14 @@ use lib.Ieee.{Float, nan, inf, fin, binary32, is_nan}
 use lib.Ieee.Bits.{of_bits-to_bits}
 use lib.Ieee.Positive.{positive}
 use mir.Facts.{to_z-of_z}
+use Rattle.shown.proofs.Bits.{nan_refused}
 use Rattle.shown.proofs.Answers.{refuses}
 use Rattle.shown.proofs.shown_of.Goals as goal
-
--- a NaN is neither finite nor above zero
-refused : (x : Float) → is_nan x ≡ true → positive x ≡ false
-unfolding is_nan
-refused nan e = refl
-refused (inf s) e = absurd (true≢false (sym e))
-refused (fin s m x) e = absurd (true≢false (sym e))
 
 pub returns-then-is_nan : goal.returns-then-is_nan
 returns-then-is_nan c =
     let a = c.args in
-    let p = refuses a.value a.offset a.scale (refused a.scale (sym c.is_nan.ensures.value ∙ c.if-is_nan.true)) in
+    let p = refuses a.value a.offset a.scale (nan_refused a.scale (sym c.is_nan.ensures.value ∙ c.if-is_nan.true)) in
     rw c.from.ensures (record { value = p.0; exact = p.1 })
 
 -- the callee is handed the offset and the scale as their bits

@@ -24,6 +24,6 @@ put_part-requires c =
 pub returns : goal.returns
 returns c =
     let a = c.args in
-    let n = number_in a.digits in
+    let n = number_in a.digits.now in
     rw (c.put_part.ensures, c.put_digits.ensures, c.put_sign.ensures, c.sign_length-sign.ensures)
     (sym (sets_text a.out.now (sign_bytes a.below) (part_of a.decimals n) a.places (n / 10 ^ a.decimals)))

@@ -17,9 +17,9 @@ pub loop-k-preserved : goal.loop-k-preserved
 loop-k-preserved c =
     let l = c.loop-k in
     let a = c.args in
-    let n = number_in a.digits in
+    let n = number_in a.digits.now in
     let j = a.count - 1 - l.k in
-    let byte = byte_of_digit 56 n a.from j a.digits c.requires.2 (omega arith) in
+    let byte = byte_of_digit 56 n a.from j a.digits.now c.requires.2 (omega arith) in
     (rw (c.put_byte.ensures, byte) (l.invariant.0 ∙ digits_step l.out a.place a.count l.k (n / 10 ^ a.from) (omega arith)), omega arith)
 
 pub returns : goal.returns
@@ -28,7 +28,7 @@ returns c =
     let l = c.loop-k in
     let a = c.args in
     let e : a.count - l.k ≡ 0 = omega arith in
-    sym (l.invariant.0 ∙ ap (λ (m : ℕ). sets l.out (a.place + l.k) (last_digits m (number_in a.digits / 10 ^ a.from))) e)
+    sym (l.invariant.0 ∙ ap (λ (m : ℕ). sets l.out (a.place + l.k) (last_digits m (number_in a.digits.now / 10 ^ a.from))) e)
 
 pub shape_of-out : goal.shape_of-out
 shape_of-out c = ap length (returns c) ∙ simp length-sets

@@ -1,5 +1,4 @@
 -- `printed::text::put_digits` meets its contract. The loop's invariant: what is to be stored from the start is what is to be stored from here.
--- The measure is what is left of the count.
 use mathlib.Core.Path.{◌≡◌}
 use Prim.Native.Nat.{◌+◌, ◌-◌, ◌/◌, ◌^◌, ◌≤◌}
 use lib.Seq.{sets}
@@ -11,6 +10,3 @@ abbrev pub invariant-loop-k : goal.invariant-loop-k
 invariant-loop-k l =
     (sets l.initial.out l.place (last_digits l.count (number_in l.digits / 10 ^ l.from)) ≡ sets l.out (l.place + l.k) (last_digits (l.count - l.k) (number_in l.digits / 10 ^ l.from)))
     × (l.k ≤ l.count)
-
-abbrev pub decreases-loop-k : goal.decreases-loop-k
-decreases-loop-k l = l.count - l.k

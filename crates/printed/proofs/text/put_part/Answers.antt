@@ -8,9 +8,9 @@ use Rattle.printed.proofs.text.put_part.Goals as goal
 pub returns-then-decimals-gt0 : goal.returns-then-decimals-gt0
 returns-then-decimals-gt0 c =
     let a = c.args in
-    rw (c.put_digits.ensures, c.put_byte.ensures, part_some a.decimals (number_in a.digits) c.if-decimals-gt0.true, add-one, div-one)
+    rw (c.put_digits.ensures, c.put_byte.ensures, part_some a.decimals (number_in a.digits.now) c.if-decimals-gt0.true, add-one, div-one)
 
 pub returns-else-decimals-gt0 : goal.returns-else-decimals-gt0
 returns-else-decimals-gt0 c =
     let a = c.args in
-    rw (part_none a.decimals (number_in a.digits) c.if-decimals-gt0.false)
+    rw (part_none a.decimals (number_in a.digits.now) c.if-decimals-gt0.false)
