@@ -46,12 +46,8 @@ pub fn places_of(digits: &[u8; 56], decimals: usize) -> usize
     requires { (decimals ≤ 7) × (digits.now ≡ low_digits 56 (number_in digits.now)) }
     ensures { result ≡ places (number_in digits.now / 10 ^ decimals) }
 {
-    let mut top: usize = 56;
-    while decimals + 1 < top {
-        if digits[top - 1] != 0 {
-            return top - decimals;
-        }
-        top -= 1;
+    match digits.iter().rposition(|digit| *digit != 0) {
+        Some(top) if decimals < top => top + 1 - decimals,
+        _ => 1,
     }
-    1
 }
