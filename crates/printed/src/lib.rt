@@ -6,7 +6,7 @@ ghost use Rattle.std.specs.Float.{binary32};
 ghost use Rattle.std.specs.Float.Ieee.{of_bits};
 ghost use Rattle.std.specs.Float.Ieee.Positive.{positive};
 ghost use Rattle.printed.specs.Printing.{Prints, printed_as};
-ghost use Rattle.printed.specs.Steps.{LaidOut};
+ghost use Rattle.printed.specs.LaidOut.{LaidOut};
 ghost use Rattle.printed.specs.Promises.{PrintedText};
 ghost use Rattle.printed.specs.Examples.{PrintedExamples};
 
@@ -15,6 +15,8 @@ use octets::numbers::{DONE, Refusal};
 mod digits;
 mod number;
 mod text;
+
+use text::Laid;
 
 // Number 0 and how many bytes of text were written, or the refusal and length 0.
 #[repr(C)]
@@ -41,14 +43,6 @@ impl From<Result<usize, Refusal>> for Printed {
     }
 }
 
-// What is written: a minus sign or none, so many places before the point, and the digits, the lowest first.
-#[derive(Clone, Copy)]
-pub struct Laid {
-    pub below: bool,
-    pub places: usize,
-    pub digits: [u8; 56],
-}
-
 // The number that is printed, taken apart.
 fn laid_out(value: u32, offset: i32, scale: u32, decimals: u32) -> Laid
     requires { (positive (of_bits binary32 scale) ≡ true) × (decimals ≤ 7) }
@@ -61,6 +55,7 @@ fn laid_out(value: u32, offset: i32, scale: u32, decimals: u32) -> Laid
     Laid {
         below: fraction.below & ((printed.whole != 0) | (printed.part != 0)),
         places: digits::places_of(&digits, decimals as usize),
+        decimals: decimals as usize,
         digits,
     }
 }
@@ -82,17 +77,11 @@ fn print_bits(
         return Err(Refusal::WrongValue);
     }
     let laid = laid_out(value, offset, scale, decimals);
-    let length = text::length_of(laid.below, laid.places, decimals as usize);
+    let length = laid.length();
     if out.len() < length {
         return Err(Refusal::TooShort);
     }
-    text::put(
-        out,
-        laid.below,
-        laid.places,
-        &laid.digits,
-        decimals as usize,
-    );
+    laid.put(out);
     Ok(length)
 }
 
