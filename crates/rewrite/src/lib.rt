@@ -45,6 +45,7 @@ fn rewrite_all(pool: &[u8], out: &mut [u8])
     requires { ((verdict_of pool.now).code ≡ 0) × (length pool.now ≤ length out.old) }
     ensures { out.new ≡ again pool.now out.old }
 {
+    // The next place is what the call gives back: an iterator over the places would read each object's size a second time.
     let mut at: usize = 0;
     while at < pool.len() {
         at = objects::rewrite_object(pool, at, out);
