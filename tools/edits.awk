@@ -52,6 +52,7 @@ function folder_of(file) {
 
 # The function in whose body a place stands, as 'src/lib.rt:7 name', and nothing where it stands in none: in a contract, a type, a constant. As rt fmt
 # lays a function out, its body is between '{' and '}' below the first letter of its line, or after the '{' that ends the line where it has no contract.
+# Nothing of a trait's function too: rt does not call it by its type's name.
 function body_around(file, text, at,    lines, last, head, i, indent, inside) {
     last = split(substr(text, 1, at), lines, "\n")
     for (head = last; head && lines[head] !~ /^ *(pub(\([a-z]*\))? )?((const|unsafe|final) )*(extern "C" )?fn [a-z_]/; head--) ;
@@ -59,6 +60,8 @@ function body_around(file, text, at,    lines, last, head, i, indent, inside) {
     match(lines[head], /^ */)
     indent = substr(lines[head], 1, RLENGTH)
     inside = lines[head] ~ /\{$/
+    for (i = head; indent != "" && i && lines[i] !~ /^(impl|trait|pub trait)[ <]/; i--) ;
+    if (lines[i] ~ / for /) return ""
     for (i = head + 1; i < last; i++) {
         if (lines[i] == indent "{") inside = 1
         if (lines[i] == indent "}") inside = 0

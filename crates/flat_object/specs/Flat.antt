@@ -1,24 +1,24 @@
 -- An object as C has it: numbers only. "Fields are those of tables A.1 to A.3."
-use Rattle.std.specs.Prelude.{ℕ, eqb}
+use Rattle.std.specs.Prelude.{ℕ, eqb, Ok, Err}
 use Rattle.octets.specs.Pick.{pick}
 use Rattle.pool.specs.{declared.BaseHead.BaseHead, declared.FunctionHead.FunctionHead, declared.StateHead.StateHead}
 use Rattle.pool.specs.declared.Head.TheVariants.{Base, Function, State}
-use Rattle.objects.specs.{declared.Kind.Kind, declared.Kind.TheVariants.Of, declared.Kind.TheVariants.Refused, declared.Object.Object, declared.Found.Found}
+use Rattle.objects.specs.{Objects.Kind, declared.Object.Object, declared.Found.Found}
 use Rattle.flat_object.specs.declared.FlatObject.{FlatObject}
 
 -- the number of each case
 abbrev pub kind_number : Kind → ℕ
-kind_number (Of (Base h)) = 0
-kind_number (Of (Function h)) = 1
-kind_number (Of (State h)) = 2
-kind_number (Refused p) = 255
+kind_number (Ok (Base h)) = 0
+kind_number (Ok (Function h)) = 1
+kind_number (Ok (State h)) = 2
+kind_number (Err p) = 255
 
 -- a field, of a base by table A.1, of a function by A.2, of a state by A.3; where no object can be read, 0
 abbrev pub by : Kind → (BaseHead → ℕ) → (FunctionHead → ℕ) → (StateHead → ℕ) → ℕ
-by (Of (Base h)) base function state = base h
-by (Of (Function h)) base function state = function h
-by (Of (State h)) base function state = state h
-by (Refused p) base function state = 0
+by (Ok (Base h)) base function state = base h
+by (Ok (Function h)) base function state = function h
+by (Ok (State h)) base function state = state h
+by (Err p) base function state = 0
 
 -- in a table that does not have the field: 0
 abbrev pub no : {A : Type 0} → A → ℕ
@@ -94,7 +94,7 @@ state_from f = record { number = f.number; state = f.state; name = f.name; pictu
 
 -- a number of no kind makes no object
 abbrev pub kind_from : FlatObject → Kind
-kind_from f = pick (eqb f.kind 0) (Of (Base (base_from f))) (pick (eqb f.kind 1) (Of (Function (function_from f))) (pick (eqb f.kind 2) (Of (State (state_from f))) (Refused 0)))
+kind_from f = pick (eqb f.kind 0) (Ok (Base (base_from f))) (pick (eqb f.kind 1) (Ok (Function (function_from f))) (pick (eqb f.kind 2) (Ok (State (state_from f))) (Err 0)))
 
 abbrev pub object_from : FlatObject → Object
 object_from f = record { kind = kind_from f; version = f.version; configuration = f.configuration; list = f.list }

@@ -11,9 +11,8 @@ use Rattle.octets.specs.Pick.{pick}
 use Rattle.octets.proofs.Laws.{Bytes, then_sets}
 use Rattle.pool.specs.declared.Head.{Head}
 use Rattle.pool.specs.Fields.{head_at, size_at}
-use Rattle.objects.specs.declared.Kind.{Kind}
-use Rattle.objects.specs.declared.Kind.TheVariants.{Of}
-use Rattle.objects.specs.Objects.{parts_of, size_of, whole_at, is_at, next_at, found_at, head_fields, bytes_of_fields, no_room, write_out}
+use Rattle.std.specs.Prelude.{Ok}
+use Rattle.objects.specs.Objects.{Kind, parts_of, size_of, whole_at, is_at, next_at, found_at, head_fields, bytes_of_fields, no_room, write_out}
 use Rattle.objects.specs.declared.parts.Parts.{Parts}
 use Rattle.objects.proofs.Stores.{total}
 use Rattle.objects.proofs.Limits.{total_head}
@@ -24,17 +23,17 @@ use Rattle.objects.proofs.Trips.{size_is, whole_written, whole_legal, decoded}
 -- what is taken of the object at a place: how many bytes its fixed part has, and how many it has itself
 pub record Taken (s : List ℕ) (at fixed size : ℕ) : Type 0 where
   pub is : IsAt s at
-  pub part : fixed ≡ (parts_of (Of (head_at s at))).fixed
-  pub whole : size ≡ size_of (Of (head_at s at))
+  pub part : fixed ≡ (parts_of (Ok (head_at s at))).fixed
+  pub whole : size ≡ size_of (Ok (head_at s at))
   pub first : fixed ≤ size
   pub room : at + size ≤ length s
 
-pub taken : (s : List ℕ) (at : ℕ) (h : Head) (q : Parts) (size : ℕ) → is_at s at ≡ true → h ≡ head_at s at → q ≡ parts_of (Of h) → size ≡ size_of (Of h) → Taken s at q.fixed size
+pub taken : (s : List ℕ) (at : ℕ) (h : Head) (q : Parts) (size : ℕ) → is_at s at ≡ true → h ≡ head_at s at → q ≡ parts_of (Ok h) → size ≡ size_of (Ok h) → Taken s at q.fixed size
 taken s at h q size e eh eq ez =
     let i = is_at_lem s at e in
     let p = passed s at i.right in
-    let z : size ≡ size_of (Of (head_at s at)) = ez ∙ ap (λ (g : Head). size_of (Of g)) eh in
-    let f : q.fixed ≡ (parts_of (Of (head_at s at))).fixed = ap (λ (r : Parts). r.fixed) eq ∙ ap (λ (g : Head). (parts_of (Of g)).fixed) eh in
+    let z : size ≡ size_of (Ok (head_at s at)) = ez ∙ ap (λ (g : Head). size_of (Ok g)) eh in
+    let f : q.fixed ≡ (parts_of (Ok (head_at s at))).fixed = ap (λ (r : Parts). r.fixed) eq ∙ ap (λ (g : Head). (parts_of (Ok g)).fixed) eh in
     record { is = i; part = f; whole = z; first = omega arith; room = omega (arith, size_is s at p.kind, p.room) }
 
 module _ (s : List ℕ) (at : ℕ) (i : IsAt s at) where
@@ -60,9 +59,9 @@ module _ (s : List ℕ) (at fixed size : ℕ) (t : Taken s at fixed size) where
   pub next_taken : at + size ≡ (found_at s at).next
   next_taken = rw (t.whole, ← size_is s at (here s at t.is).kind) (sym (next_is s at t.is))
 
-  pub out_taken : Bytes s → (out : List ℕ) → length s ≤ length out → sets (sets out at (bytes_of_fields (head_fields (Of (head_at s at))))) (at + fixed) (take (at + size - (at + fixed)) (drop (at + fixed) s)) ≡ write_out (found_at s at).object out at
+  pub out_taken : Bytes s → (out : List ℕ) → length s ≤ length out → sets (sets out at (bytes_of_fields (head_fields (Ok (head_at s at))))) (at + fixed) (take (at + size - (at + fixed)) (drop (at + fixed) s)) ≡ write_out (found_at s at).object out at
   out_taken B out room =
-      let k : Kind = Of (head_at s at) in
+      let k : Kind = Ok (head_at s at) in
       let p = here s at t.is in
       let n : ℕ = at + size - (at + fixed) in
       let all : fixed + n ≡ size_at s at = omega (arith, size_is s at p.kind) in

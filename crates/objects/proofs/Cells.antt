@@ -17,7 +17,6 @@ use Rattle.objects.specs.Objects.{cells, all_blank, blank_from}
 use Rattle.objects.proofs.Limits.{and_l, and_r}
 
 blank_replicate : (n m : ℕ) → blank_from n (replicate m 0) ≡ true
-unfolding all_blank
 blank_replicate zero zero = refl
 blank_replicate zero (suc m) = blank_replicate zero m
 blank_replicate (suc n) zero = refl
@@ -25,7 +24,6 @@ blank_replicate (suc n) (suc m) = blank_replicate n m
 
 -- two blank lists of one length are the same
 blanks_same : (a b : List ℕ) → all_blank a ≡ true → all_blank b ≡ true → length a ≡ length b → a ≡ b
-unfolding all_blank
 blanks_same [] [] p q e = refl
 blanks_same [] (y ∷ b) p q e = absurd (omega arith)
 blanks_same (x ∷ a) [] p q e = absurd (omega arith)

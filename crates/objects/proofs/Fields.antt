@@ -15,9 +15,8 @@ use Rattle.octets.proofs.Laws.{Bytes, number_one, number_fits, length_bytes, byt
 use Rattle.pool.specs.declared.Head.{Head}
 use Rattle.pool.specs.declared.Head.TheVariants.{Base, Function, State}
 use Rattle.pool.specs.Fields.{kind_at, head_at, numbers_at}
-use Rattle.objects.specs.declared.Kind.{Kind}
-use Rattle.objects.specs.declared.Kind.TheVariants.{Of, Refused}
-use Rattle.objects.specs.Objects.{parts_of, Field, field, head_fields, bytes_of_fields, kind_right}
+use Rattle.std.specs.Prelude.{Ok, Err}
+use Rattle.objects.specs.Objects.{Kind, parts_of, Field, field, head_fields, bytes_of_fields, kind_right}
 use Rattle.objects.specs.RoundTrip.{Fit}
 use Rattle.objects.proofs.Stores.{total}
 use Rattle.objects.proofs.Passed.{by_kind}
@@ -76,14 +75,14 @@ module _ (s : List ℕ) where
 -- ---- the fixed part
 
 module _ (s : List ℕ) (at : ℕ) where
-  pub head_reads : kind_at s at ≤ 2 → Reads s at (head_fields (Of (head_at s at)))
+  pub head_reads : kind_at s at ≤ 2 → Reads s at (head_fields (Ok (head_at s at)))
   head_reads k =
-      by_kind s at (λ h. Reads s at (head_fields (Of h))) k
+      by_kind s at (λ h. Reads s at (head_fields (Ok h))) k
       (λ e. simp (add_assoc, number_one, e) (search rules))
       (λ e. simp (add_assoc, number_one, e) (search rules))
       (λ e. simp (add_assoc, number_one, e) (search rules))
 
-  head_are : (h : Head) → Reads s at (head_fields (Of h)) → head_at s at ≡ h
+  head_are : (h : Head) → Reads s at (head_fields (Ok h)) → head_at s at ≡ h
   unfolding head_at pick
   head_are (Base h) r =
       let f = simp (add_assoc, number_one) at r in
@@ -95,23 +94,23 @@ module _ (s : List ℕ) (at : ℕ) where
       let f = simp (add_assoc, number_one) at r in
       rw (← f.1.0, ← f.0, ← f.1.1.0, ← f.1.1.1.0, ← f.1.1.1.1.0)
 
-  pub kind_is : (k : Kind) → kind_right k ≡ true → Reads s at (head_fields k) → Of (head_at s at) ≡ k
-  kind_is (Of h) e r = ap Of (head_are h r)
-  kind_is (Refused p) e r = let z : ◌≡◌ {A = ℕ} 0 1 = cc in absurd (omega arith)
+  pub kind_is : (k : Kind) → kind_right k ≡ true → Reads s at (head_fields k) → Ok (head_at s at) ≡ k
+  kind_is (Ok h) e r = ap Ok (head_are h r)
+  kind_is (Err p) e r = let z : ◌≡◌ {A = ℕ} 0 1 = cc in absurd (omega arith)
 
   -- its type is 0, 1 or 2
   pub type_known : (k : Kind) → kind_right k ≡ true → Reads s at (head_fields k) → kind_at s at ≤ 2
-  type_known (Of (Base h)) e r = omega (arith, r.1.0, number_one s (at + 2))
-  type_known (Of (Function h)) e r = omega (arith, r.1.0, number_one s (at + 2))
-  type_known (Of (State h)) e r = omega (arith, r.1.0, number_one s (at + 2))
-  type_known (Refused p) e r = let z : ◌≡◌ {A = ℕ} 0 1 = cc in absurd (omega arith)
+  type_known (Ok (Base h)) e r = omega (arith, r.1.0, number_one s (at + 2))
+  type_known (Ok (Function h)) e r = omega (arith, r.1.0, number_one s (at + 2))
+  type_known (Ok (State h)) e r = omega (arith, r.1.0, number_one s (at + 2))
+  type_known (Err p) e r = let z : ◌≡◌ {A = ℕ} 0 1 = cc in absurd (omega arith)
 
 -- a list has 255 numbers at most
 pub list_most : (k : Kind) → Fit (head_fields k) → (parts_of k).list ≤ 255
-list_most (Of (Base h)) f = omega (arith, f.1.1.1.1.1.1.1.1.1.0)
-list_most (Of (Function h)) f = omega (arith, f.1.1.1.1.1.1.1.1.1.1.1.1.1.0)
-list_most (Of (State h)) f = lit≤ tt
-list_most (Refused p) f = lit≤ tt
+list_most (Ok (Base h)) f = omega (arith, f.1.1.1.1.1.1.1.1.1.0)
+list_most (Ok (Function h)) f = omega (arith, f.1.1.1.1.1.1.1.1.1.1.1.1.1.0)
+list_most (Ok (State h)) f = lit≤ tt
+list_most (Err p) f = lit≤ tt
 
 pub fit_first : (fs gs : List Field) → Fit (fs ++ gs) → Fit fs
 fit_first [] gs f = tt

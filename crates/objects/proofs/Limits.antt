@@ -11,10 +11,9 @@ use lib.Dec.{leb, lit≤}
 use borrow.Author.Tests.{leb-true}
 use Rattle.pool.specs.declared.Head.TheVariants.{Base, Function, State}
 use Rattle.pool.specs.Ranges.{label_right, head_right}
-use Rattle.objects.specs.declared.Kind.{Kind}
-use Rattle.objects.specs.declared.Kind.TheVariants.{Of, Refused}
+use Rattle.std.specs.Prelude.{Ok, Err}
 use Rattle.objects.specs.declared.Object.{Object}
-use Rattle.objects.specs.Objects.{parts_of, size_of, Field, field, head_fields, fields_of, bytes_of_fields, encode, labels_right, kind_right, blank_from, legal}
+use Rattle.objects.specs.Objects.{Kind, parts_of, size_of, Field, field, head_fields, fields_of, bytes_of_fields, encode, labels_right, kind_right, blank_from, legal}
 use Rattle.objects.proofs.Stores.{total, total_numbers, then_stored}
 
 -- ---- tests that hold together
@@ -37,12 +36,12 @@ label_most : (n : ℕ) → label_right n ≡ true → n ≤ 63
 label_most n e = leb-true n 63 (and_r (leb 1 n) (leb n 63) e)
 
 pub right_short : (k : Kind) → kind_right k ≡ true → Short k
-right_short (Of (Base h)) e =
+right_short (Ok (Base h)) e =
     let l : labels_right (Base h) ≡ true = and_l (labels_right (Base h)) (head_right (Base h)) e in
     record { version = label_most h.n (and_l (label_right h.n) (label_right h.m) l); configuration = label_most h.m (and_r (label_right h.n) (label_right h.m) l) }
-right_short (Of (Function h)) e = record { version = lit≤ tt; configuration = lit≤ tt }
-right_short (Of (State h)) e = record { version = lit≤ tt; configuration = lit≤ tt }
-right_short (Refused p) e = record { version = lit≤ tt; configuration = lit≤ tt }
+right_short (Ok (Function h)) e = record { version = lit≤ tt; configuration = lit≤ tt }
+right_short (Ok (State h)) e = record { version = lit≤ tt; configuration = lit≤ tt }
+right_short (Err p) e = record { version = lit≤ tt; configuration = lit≤ tt }
 
 pub record Legal (o : Object) : Type 0 where
   pub kind : kind_right o.kind ≡ true
@@ -65,10 +64,10 @@ is_legal o e =
 
 pub total_head : (k : Kind) → total (head_fields k) ≡ (parts_of k).fixed
 unfolding total
-total_head (Of (Base h)) = refl
-total_head (Of (Function h)) = refl
-total_head (Of (State h)) = refl
-total_head (Refused p) = refl
+total_head (Ok (Base h)) = refl
+total_head (Ok (Function h)) = refl
+total_head (Ok (State h)) = refl
+total_head (Err p) = refl
 
 part_total : (w n : ℕ) (l : List ℕ) → n ≤ length l → total (map (field w) (take n l)) ≡ w * n
 part_total w n l h = total_numbers w (take n l) ∙ ap (λ (m : ℕ). w * m) (length-take-le n l h)

@@ -22,7 +22,7 @@ use Rattle.pool.specs.Pool.{verdict_of}
 use Rattle.pool.proofs.Faults.{first_fault_lem, walk_here, walk_next}
 use Rattle.pool.proofs.Walk.{size_least}
 use Rattle.pool.proofs.Labels.{code_late, right_where}
-use Rattle.objects.specs.declared.Kind.TheVariants.{Of}
+use Rattle.std.specs.Prelude.{Ok}
 use Rattle.objects.specs.Objects.{is_at, labels_right, kind_right}
 use Rattle.objects.proofs.Limits.{and_l, and_r}
 
@@ -60,7 +60,7 @@ no_wrong false b h = refl
 pub record Passed (s : List ℕ) (at : ℕ) : Type 0 where
   pub kind : kind_at s at ≤ 2
   pub room : at + size_at s at ≤ length s
-  pub right : kind_right (Of (head_at s at)) ≡ true
+  pub right : kind_right (Ok (head_at s at)) ≡ true
 
 module _ (s : List ℕ) (at : ℕ) where
   base_here : kind_at s at ≡ 0 → head_at s at ≡ Base (base_at s at)

@@ -1,21 +1,18 @@
--- The laws by which the loops go: cells that are filled, fields that are stored one after the other, and cells that are blank.
-use Prim.Native.Nat.{ℕ, suc, ◌+◌, ◌-◌, ◌*◌, ◌≤◌, ◌<◌}
+-- The laws by which the loops go: cells that are filled, and fields that are stored one after the other.
+use Prim.Native.Nat.{ℕ, suc, ◌+◌, ◌-◌, ◌*◌, ◌%◌, ◌≤◌, ◌<◌}
 use native.Mathlib.Nat.{add-suc, add-zero, le_refl}
 use native.Mathlib.Numerals.{add-one}
 use native.Mathlib.Omega.{arith}
 use mathlib.Core.Path.{◌≡◌, refl, sym, ap, ◌∙◌}
 use mathlib.Core.List.{List, [], ◌∷◌, ◌++◌, map, append-nil, append_assoc}
-use mathlib.Core.Bool.{true, false, ◌&&◌}
 use lib.ListN.{length, get_or, take, drop, set, length-append, length-drop, take-append-drop, drop_of_length-le}
-use lib.Seq.{sets, drop-cons, get_or-take, length-take-le, take_all, take-set-le, drop-set-add}
-use lib.Dec.{eqb}
-use borrow.Author.Tests.{eq-eqb, ne_eqb}
+use lib.Seq.{sets, drop-cons, take_all, take-set-le, drop-set-add}
 use borrow.Rule.Slice.PartMut.{put_mid}
 use Rattle.octets.specs.Octets.{number_at, bytes_of}
-use Rattle.octets.proofs.Laws.{length_bytes, then_sets}
+use Rattle.octets.proofs.Laws.{Bytes, length_bytes, then_sets}
 use Rattle.pool.specs.Fields.{numbers_at}
 use Rattle.pool.proofs.Lists.{length_numbers, number_in}
-use Rattle.objects.specs.Objects.{Field, field, bytes_of_fields, all_blank}
+use Rattle.objects.specs.Objects.{Field, field, bytes_of_fields}
 
 -- ---- numbers that are read into cells, from the k-th on
 
@@ -71,21 +68,25 @@ then_stored out i n fs gs e =
     ap (sets out i) (fields_append fs gs)
     ∙ then_sets out i n (bytes_of_fields fs) (bytes_of_fields gs) (length_fields fs ∙ e)
 
--- the first n numbers of a list, all of one width, from the k-th on
-pub number_start : (w : ℕ) (l : List ℕ) (n i : ℕ) (out : List ℕ) → sets out i (bytes_of_fields (map (field w) (take n l))) ≡ sets out (i + 0) (bytes_of_fields (map (field w) (take n l)))
-number_start w l n i out = ap (λ (j : ℕ). sets out j (bytes_of_fields (map (field w) (take n l)))) (sym (add-zero i))
+-- the numbers of a list, all of one width, from the k-th on
+module _ (w : ℕ) (l : List ℕ) (k i : ℕ) (out : List ℕ) where
+  pub number_next : k < length l → sets out i (bytes_of_fields (map (field w) (drop k l))) ≡ sets (sets out i (bytes_of w (get_or l k 0))) (i + w) (bytes_of_fields (map (field w) (drop (k + 1) l)))
+  number_next g =
+      ap (λ (r : List ℕ). sets out i (bytes_of_fields (map (field w) r))) (drop-cons l k 0 g)
+      ∙ field_first out i (field w (get_or l k 0)) (map (field w) (drop (suc k) l))
+      ∙ rw (add-one)
 
-module _ (w : ℕ) (l : List ℕ) (n k i : ℕ) (out : List ℕ) (h : n ≤ length l) where
-  pub number_next : (j : ℕ) → k < n → i + w ≡ j → sets out i (bytes_of_fields (map (field w) (drop k (take n l)))) ≡ sets (sets out i (bytes_of w (get_or l k 0))) j (bytes_of_fields (map (field w) (drop (k + 1) (take n l))))
-  number_next j g e =
-      let g' : k < length (take n l) = rw (length-take-le n l) g in
-      ap (λ (r : List ℕ). sets out i (bytes_of_fields (map (field w) r))) (drop-cons (take n l) k 0 g')
-      ∙ field_first out i (field w (get_or (take n l) k 0)) (map (field w) (drop (suc k) (take n l)))
-      ∙ rw (e, add-one, get_or-take n l k 0)
-
-  pub number_end : n ≤ k → sets out i (bytes_of_fields (map (field w) (drop k (take n l)))) ≡ out
+  pub number_end : length l ≤ k → sets out i (bytes_of_fields (map (field w) (drop k l))) ≡ out
   unfolding bytes_of_fields
-  number_end g = ap (λ (r : List ℕ). sets out i (bytes_of_fields (map (field w) r))) (drop_of_length-le (take n l) {i = k} (rw (length-take-le n l) g))
+  number_end g = ap (λ (r : List ℕ). sets out i (bytes_of_fields (map (field w) r))) (drop_of_length-le l {i = k} g)
+
+-- numbers of one byte are their own bytes
+pub bytes_are_fields : (l : List ℕ) → Bytes l → bytes_of_fields (map (field 1) l) ≡ l
+unfolding bytes_of_fields bytes_of
+bytes_are_fields [] b = refl
+bytes_are_fields (x ∷ l) b =
+    let same : x % 256 ≡ x = omega (arith, b 0) in
+    rw (same, bytes_are_fields l (λ k. b (suc k)))
 
 -- ---- a part of a buffer is stored to
 
@@ -108,20 +109,3 @@ part_stored a out last b h e =
     rw (after, e, whole)
     (ap (λ (l : List ℕ). take a out ++ l) (append-nil (sets (drop a out) 0 b) ∙ sym (drop_sets a 0 out b))
     ∙ rw (here) (ap (λ (l : List ℕ). l ++ drop a (sets out a b)) (sym (take_sets a a out b (le_refl a))) ∙ take-append-drop a (sets out a b)))
-
--- ---- cells that are blank, from the k-th on
-
-module _ (l : List ℕ) (k : ℕ) where
-  blank_cons : k < length l → all_blank (drop k l) ≡ (eqb (get_or l k 0) 0 && all_blank (drop (k + 1) l))
-  unfolding all_blank
-  blank_cons h = rw (add-one, drop-cons l k 0)
-
-  pub blank_end : length l ≤ k → all_blank (drop k l) ≡ true
-  unfolding all_blank
-  blank_end h = ap all_blank (drop_of_length-le l h)
-
-  pub blank_not : k < length l → (get_or l k 0 ≡ 0 → ⊥) → all_blank (drop k l) ≡ false
-  blank_not h n = blank_cons h ∙ rw (ne_eqb (get_or l k 0) 0 n)
-
-  pub blank_next : k < length l → get_or l k 0 ≡ 0 → all_blank (drop k l) ≡ all_blank (drop (k + 1) l)
-  blank_next h e = blank_cons h ∙ rw (eq-eqb (get_or l k 0) 0 e)

@@ -23,11 +23,10 @@ use Rattle.pool.specs.Pool.{verdict_of}
 use Rattle.pool.specs.Cases.{base, function}
 use Rattle.pool.proofs.Lists.{length_numbers}
 use Rattle.pool.proofs.Walk.{size_least, places_end, places_next}
-use Rattle.objects.specs.declared.Kind.{Kind}
-use Rattle.objects.specs.declared.Kind.TheVariants.{Of}
+use Rattle.std.specs.Prelude.{Ok}
 use Rattle.objects.specs.declared.Object.{Object}
 use Rattle.objects.specs.declared.Written.{Written}
-use Rattle.objects.specs.Objects.{parts_of, size_of, whole_at, decode, next_at, found_at, field, head_fields, fields_of, encode, kind_right, legal, written, no_room, write_answer, write_out, decode_all, encode_all}
+use Rattle.objects.specs.Objects.{Kind, parts_of, size_of, whole_at, decode, next_at, found_at, field, head_fields, fields_of, encode, kind_right, legal, written, no_room, write_answer, write_out, decode_all, encode_all}
 use Rattle.objects.specs.RoundTrip.{LegalObject, AllLegal, RoundTrip}
 use Rattle.objects.proofs.Stores.{total, total_numbers, length_fields}
 use Rattle.objects.proofs.Limits.{and_l, and_r, right_short, is_legal, total_head, version_total, configuration_total, total_fields}
@@ -40,21 +39,21 @@ use Rattle.objects.proofs.Fields.{Reads, fields_written, fields_read, reads_fit,
 
 module _ (s : List ℕ) (at : ℕ) where
   -- the two ways of saying how long an object is
-  pub size_is : kind_at s at ≤ 2 → size_at s at ≡ size_of (Of (head_at s at))
+  pub size_is : kind_at s at ≤ 2 → size_at s at ≡ size_of (Ok (head_at s at))
   unfolding fixed_of rest_at pick
   size_is k =
-      by_kind s at (λ h. size_at s at ≡ size_of (Of h)) k
+      by_kind s at (λ h. size_at s at ≡ size_of (Ok h)) k
       (λ e. rw e (omega arith))
       (λ e. rw e (omega arith))
       (λ e. rw e)
 
 module _ (s : List ℕ) (at : ℕ) (B : Bytes s) (p : Passed s at) where
-  whole_most : (parts_of (Of (head_at s at))).list ≤ 255
-  whole_most = list_most (Of (head_at s at)) (reads_fit s (head_fields (Of (head_at s at))) at B (head_reads s at p.kind))
+  whole_most : (parts_of (Ok (head_at s at))).list ≤ 255
+  whole_most = list_most (Ok (head_at s at)) (reads_fit s (head_fields (Ok (head_at s at))) at B (head_reads s at p.kind))
 
   whole_fields : Reads s at (fields_of (apart s at))
   whole_fields =
-      let k : Kind = Of (head_at s at) in
+      let k : Kind = Ok (head_at s at) in
       let q = parts_of k in
       let short = right_short k p.right in
       let heads = head_reads s at p.kind in
@@ -73,7 +72,7 @@ module _ (s : List ℕ) (at : ℕ) (B : Bytes s) (p : Passed s at) where
 
   whole_total : total (fields_of (apart s at)) ≡ size_at s at
   whole_total =
-      let short = right_short (Of (head_at s at)) p.right in
+      let short = right_short (Ok (head_at s at)) p.right in
       total_fields (apart s at)
       (simp (length-sets, length-replicate) short.version)
       (simp (length-sets, length-replicate) short.configuration)
@@ -84,14 +83,14 @@ module _ (s : List ℕ) (at : ℕ) (B : Bytes s) (p : Passed s at) where
   pub whole_written : encode (whole_at s at) ≡ take (size_at s at) (drop at s)
   unfolding encode
   whole_written =
-      rw (whole_apart s at (right_short (Of (head_at s at)) p.right))
+      rw (whole_apart s at (right_short (Ok (head_at s at)) p.right))
       (fields_written s (fields_of (apart s at)) at B whole_fields (omega (arith, p.room, whole_total)) ∙ ap (λ (n : ℕ). take n (drop at s)) whole_total)
 
   -- and is legal
   pub whole_legal : LegalObject (whole_at s at)
   unfolding legal
   whole_legal =
-      let k : Kind = Of (head_at s at) in
+      let k : Kind = Ok (head_at s at) in
       let short = right_short k p.right in
       rw (whole_apart s at short) (record {
         fields = reads_fit s (fields_of (apart s at)) at B whole_fields;
@@ -158,7 +157,7 @@ module _ (s : List ℕ) (at : ℕ) (o : Object) (rest : List ℕ) (g : LegalObje
         cells_are 255 q.list _ o.list (omega (arith, g.list)) g.list legal.list el,
       )
 
-  kind_same : Of (head_at s at) ≡ o.kind
+  kind_same : Ok (head_at s at) ≡ o.kind
   unfolding whole_at
   kind_same = ap (λ (x : Object). x.kind) whole_is
 

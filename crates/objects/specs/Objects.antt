@@ -1,14 +1,20 @@
 -- 01, "The pool": "Fields are those of tables A.1 to A.3." An object by value: how it is read off a pool's bytes, when it is legal, how it is
 -- written, and a whole pool as the list of its objects. `s` is the pool's bytes and `at` an object's place in it.
-use Rattle.std.specs.Prelude.{ℕ, ◌+◌, ◌*◌, List, [], ◌∷◌, ◌++◌, map, Bool, true, false, not, ◌&&◌, length, take, drop, replicate, ltb, eqb}
+use Rattle.std.specs.Prelude.{ℕ, ◌+◌, ◌*◌, List, [], ◌∷◌, ◌++◌, map, Bool, true, false, not, ◌&&◌, length, take, drop, replicate, ltb, eqb, Result, Ok, Err}
+use Rattle.std.specs.List.{list_all}
 use Rattle.std.proofs.lemmas.List.Edits.{sets}
 use Rattle.octets.specs.{Pick.pick, Octets.bytes_of, Label.blank, declared.label.Label.Label}
 use Rattle.octets.specs.Numbers.{completed, too_short, wrong_value}
+use Rattle.octets.specs.{Refusals.refusal_number, declared.numbers.Refusal.Refusal}
 use Rattle.pool.specs.{declared.Head.Head, Ranges.label_right, Ranges.head_right, StageOne.code_at}
 use Rattle.pool.specs.declared.Head.TheVariants.{Base, Function, State}
 use Rattle.pool.specs.Fields.{kind_at, base_type, function_type, state_type, head_at, base_fixed, function_fixed, state_fixed, size_at, version_label, configuration_label, functions_of, states_of, places_from}
-use Rattle.objects.specs.{declared.Kind.Kind, declared.Kind.TheVariants.Of, declared.Kind.TheVariants.Refused, declared.parts.Parts.Parts}
+use Rattle.objects.specs.{declared.parts.Parts.Parts}
 use Rattle.objects.specs.{declared.Object.Object, declared.Found.Found, declared.Written.Written}
+
+-- the type of an object with the numbers of its fixed part, or the place at which no object could be read
+abbrev pub Kind : Type 0
+Kind = Result Head ℕ
 
 -- ---- "Lengths from annex A: base 27 + N + M + 2·O bytes (labels N and M, O functions), function 30 + 2·S (S states, at most 64), state 8."
 
@@ -17,10 +23,10 @@ abbrev pub parts : ℕ → ℕ → ℕ → ℕ → Parts
 parts f n m c = record { fixed = f; version = n; configuration = m; list = c }
 
 abbrev pub parts_of : Kind → Parts
-parts_of (Of (Base h)) = parts base_fixed h.n h.m h.o
-parts_of (Of (Function h)) = parts function_fixed 0 0 h.s
-parts_of (Of (State h)) = parts state_fixed 0 0 0
-parts_of (Refused p) = parts 0 0 0 0
+parts_of (Ok (Base h)) = parts base_fixed h.n h.m h.o
+parts_of (Ok (Function h)) = parts function_fixed 0 0 h.s
+parts_of (Ok (State h)) = parts state_fixed 0 0 0
+parts_of (Err p) = parts 0 0 0 0
 
 abbrev pub size_of : Kind → ℕ
 size_of k = (parts_of k).fixed + (parts_of k).version + (parts_of k).configuration + 2 * (parts_of k).list
@@ -42,7 +48,7 @@ list_after s at = pick (eqb (kind_at s at) base_type) (functions_of s at) (pick 
 unfoldable pub whole_at : List ℕ → ℕ → Object
 whole_at s at =
     record {
-      kind = Of (head_at s at);
+      kind = Ok (head_at s at);
       version = (label_after s at (version_label s at)).bytes;
       configuration = (label_after s at (configuration_label s at)).bytes;
       list = cells 255 (list_after s at);
@@ -50,7 +56,7 @@ whole_at s at =
 
 -- where none can be read: the place, and blank cells
 unfoldable pub refused : ℕ → Object
-refused at = record { kind = Refused at; version = replicate 63 0; configuration = replicate 63 0; list = replicate 255 0 }
+refused at = record { kind = Err at; version = replicate 63 0; configuration = replicate 63 0; list = replicate 255 0 }
 
 -- an object can be read at a place before the end where stage one finds no fault, in a pool of "At most 16,384 bytes"
 unfoldable pub is_at : List ℕ → ℕ → Bool
@@ -77,7 +83,7 @@ field w v = record { width = w; value = v }
 
 -- "Fields are those of tables A.1 to A.3": the fixed part, in the tables' order
 abbrev pub head_fields : Kind → List Field
-head_fields (Of (Base h)) =
+head_fields (Ok (Base h)) =
     field 2 h.number
     ∷ field 1 base_type
     ∷ field 1 h.version
@@ -89,7 +95,7 @@ head_fields (Of (Base h)) =
     ∷ field 1 h.m
     ∷ field 1 h.o
     ∷ []
-head_fields (Of (Function h)) =
+head_fields (Ok (Function h)) =
     field 2 h.number
     ∷ field 1 function_type
     ∷ field 1 h.function
@@ -105,8 +111,8 @@ head_fields (Of (Function h)) =
     ∷ field 2 h.picture
     ∷ field 1 h.s
     ∷ []
-head_fields (Of (State h)) = field 2 h.number ∷ field 1 state_type ∷ field 1 h.state ∷ field 2 h.name ∷ field 2 h.picture ∷ []
-head_fields (Refused p) = []
+head_fields (Ok (State h)) = field 2 h.number ∷ field 1 state_type ∷ field 1 h.state ∷ field 2 h.name ∷ field 2 h.picture ∷ []
+head_fields (Err p) = []
 
 -- the labels, a byte a field, and the list, two bytes a field
 abbrev pub fields_of : Object → List Field
@@ -131,12 +137,11 @@ labels_right (Function h) = true
 labels_right (State h) = true
 
 abbrev pub kind_right : Kind → Bool
-kind_right (Of h) = labels_right h && head_right h
-kind_right (Refused p) = false
+kind_right (Ok h) = labels_right h && head_right h
+kind_right (Err p) = false
 
-unfoldable pub all_blank : List ℕ → Bool
-all_blank [] = true
-all_blank (x ∷ xs) = eqb x 0 && all_blank xs
+abbrev pub all_blank : List ℕ → Bool
+all_blank cells = list_all (λ c. eqb c 0) cells
 
 abbrev pub blank_from : ℕ → List ℕ → Bool
 blank_from n l = all_blank (drop n l)
@@ -152,6 +157,11 @@ legal o =
 
 abbrev pub written : ℕ → ℕ → Written
 written n p = record { number = n; next = p }
+
+-- the number of the outcome, and the place after what was written; of a refusal, the place itself
+abbrev pub written_at : ℕ → Result ℕ Refusal → Written
+written_at at (Ok next) = written completed next
+written_at at (Err why) = written (refusal_number why) at
 
 abbrev pub no_room : Object → List ℕ → ℕ → Bool
 no_room o out at = ltb (length out) (at + size_of o.kind)

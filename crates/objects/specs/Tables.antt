@@ -1,14 +1,14 @@
 -- 01, "The pool": "Fields are those of tables A.1 to A.3.", "Numbers are least significant byte first": what the objects of a pool in which no two
 -- fields of an object are alike are read as. The function `tables` of the crate ensures these statements.
-use Rattle.std.specs.Prelude.{◌≡◌, ◌∷◌, replicate}
+use Rattle.std.specs.Prelude.{◌≡◌, ◌∷◌, replicate, Ok}
 use Rattle.pool.specs.{Sample.sample, declared.Head.TheVariants.Base, declared.Head.TheVariants.Function, declared.Head.TheVariants.State}
-use Rattle.objects.specs.{declared.Object.Object, declared.Kind.TheVariants.Of, Objects.found_at}
+use Rattle.objects.specs.{declared.Object.Object, Objects.found_at}
 
 abbrev pub base_object : Object
 base_object =
     record {
       kind =
-          Of
+          Ok
           (Base
           (record {
             number = 0;
@@ -30,7 +30,7 @@ abbrev pub function_object : Object
 function_object =
     record {
       kind =
-          Of
+          Ok
           (Function
           (record {
             number = 0x0102;
@@ -55,7 +55,7 @@ function_object =
 abbrev pub state_object : Object
 state_object =
     record {
-      kind = Of (State (record { number = 0x0103; state = 9; name = 0x3C3B; picture = 0x3E3D }));
+      kind = Ok (State (record { number = 0x0103; state = 9; name = 0x3C3B; picture = 0x3E3D }));
       version = replicate 63 0;
       configuration = replicate 63 0;
       list = replicate 255 0;

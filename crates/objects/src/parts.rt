@@ -2,11 +2,10 @@
 ghost use Rattle.std.specs.Prelude.{◌≡◌, ◌≤◌};
 ghost use Rattle.objects.specs.Objects.{parts_of, size_of};
 
-use crate::Kind;
 use pool::{BASE_FIXED, FUNCTION_FIXED, Head, STATE_FIXED};
 
 // The bytes of the fixed part and of the labels, and the count of the numbers listed.
-#[derive(Clone, Copy)]
+#[derive(Clone, Copy, Default)]
 pub struct Parts {
     pub fixed: u8,
     pub version: u8,
@@ -15,7 +14,7 @@ pub struct Parts {
 }
 
 pub fn head_parts(head: Head) -> Parts
-    ensures { result ≡ parts_of (Kind.Of head) }
+    ensures { result ≡ parts_of (Ok head) }
 {
     match head {
         Head::Base(b) => Parts {
@@ -26,34 +25,26 @@ pub fn head_parts(head: Head) -> Parts
         },
         Head::Function(f) => Parts {
             fixed: FUNCTION_FIXED as u8,
-            version: 0,
-            configuration: 0,
             list: f.s,
+            ..Parts::default()
         },
         Head::State(_) => Parts {
             fixed: STATE_FIXED as u8,
-            version: 0,
-            configuration: 0,
-            list: 0,
+            ..Parts::default()
         },
     }
 }
 
-pub fn parts_of(kind: Kind) -> Parts
+pub fn parts_of(kind: Result<Head, usize>) -> Parts
     ensures { result ≡ parts_of kind }
 {
     match kind {
-        Kind::Of(head) => head_parts(head),
-        Kind::Refused(_) => Parts {
-            fixed: 0,
-            version: 0,
-            configuration: 0,
-            list: 0,
-        },
+        Ok(head) => head_parts(head),
+        Err(_) => Parts::default(),
     }
 }
 
-pub fn size_of(kind: Kind) -> usize
+pub fn size_of(kind: Result<Head, usize>) -> usize
     ensures value { result ≡ size_of kind }
     ensures upper_bound { result ≤ 1275 }
 {

@@ -3,8 +3,8 @@ ghost use Rattle.std.specs.Prelude.{◌≡◌, ◌≤◌, ◌<◌};
 ghost use Rattle.pool.specs.Fields.{numbers_at};
 ghost use Rattle.objects.specs.Objects.{cells, whole_at, refused, is_at};
 
+use crate::Object;
 use crate::parts::head_parts;
-use crate::{Kind, Object};
 use octets::label::label_at;
 use octets::u16_at;
 
@@ -14,10 +14,8 @@ fn list_at(s: &[u8], i: usize, n: usize) -> [u16; 255]
     ensures { result ≡ cells 255 (numbers_at 2 s.now i n) }
 {
     let mut list = [0u16; 255];
-    let mut k: usize = 0;
-    while k < n {
+    for k in 0..n {
         list[k] = u16_at(s, i + 2 * k);
-        k += 1;
     }
     list
 }
@@ -37,27 +35,26 @@ pub fn whole_at(s: &[u8], at: usize) -> Object
     let version = first.bytes;
     let configuration = second.bytes;
     Object {
-        kind: Kind::Of(head),
+        kind: Ok(head),
         version,
         configuration,
         list,
     }
 }
 
+#[tactic(auto, unfolding(crate::specs::Objects::refused))]
 pub fn refused(place: usize) -> Object
     ensures { result ≡ refused place }
 {
-    let version = [0u8; 63];
-    let configuration = [0u8; 63];
-    let list = [0u16; 255];
     Object {
-        kind: Kind::Refused(place),
-        version,
-        configuration,
-        list,
+        kind: Err(place),
+        version: [0; 63],
+        configuration: [0; 63],
+        list: [0; 255],
     }
 }
 
+#[tactic(auto, unfolding(crate::specs::Objects::is_at))]
 pub fn is_at(s: &[u8], at: usize) -> bool
     ensures { result ≡ is_at s.now at }
 {

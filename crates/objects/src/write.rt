@@ -1,16 +1,16 @@
 // An object is written as bytes, at the front of a buffer.
-ghost use Rattle.std.specs.Prelude.{◌≡◌, map, ◌+◌, ◌*◌, ◌≤◌, ◌<◌, ltb, take};
+ghost use Rattle.std.specs.Prelude.{◌≡◌, map, ◌+◌, ◌≤◌, ◌<◌, length, ltb};
 ghost use Rattle.octets.specs.Octets.{bytes_of};
 ghost use Rattle.std.proofs.lemmas.List.Edits.{sets};
 ghost use Rattle.objects.specs.Objects.{field, head_fields, bytes_of_fields, parts_of, size_of, encode};
 
+use crate::Object;
 use crate::parts::{parts_of, size_of};
-use crate::{Kind, Object};
-use octets::{put, put_u16, put_u32, put_u64};
+use octets::{put, put_bytes, put_u16, put_u32, put_u64};
 use pool::{BASE_TYPE, BaseHead, FUNCTION_TYPE, FunctionHead, Head, STATE_TYPE, StateHead};
 
 // The object's bytes do not end within length, written from a place on; at + size itself may be too large for a usize.
-pub fn no_room(kind: Kind, length: usize, at: usize) -> bool
+pub fn no_room(kind: Result<Head, usize>, length: usize, at: usize) -> bool
     ensures { result ≡ ltb length (at + size_of kind) }
 {
     let size = size_of(kind);
@@ -28,7 +28,7 @@ fn put_u8(out: &mut [u8], i: usize, v: u8)
 }
 
 fn put_base(out: &mut [u8], h: BaseHead)
-    ensures { out.new ≡ sets out.old 0 (bytes_of_fields (head_fields (Kind.Of (Head.Base h)))) }
+    ensures { out.new ≡ sets out.old 0 (bytes_of_fields (head_fields (Ok (Head.Base h)))) }
 {
     put_u16(out, 0, h.number);
     put_u8(out, 2, BASE_TYPE);
@@ -43,7 +43,7 @@ fn put_base(out: &mut [u8], h: BaseHead)
 }
 
 fn put_function(out: &mut [u8], h: FunctionHead)
-    ensures { out.new ≡ sets out.old 0 (bytes_of_fields (head_fields (Kind.Of (Head.Function h)))) }
+    ensures { out.new ≡ sets out.old 0 (bytes_of_fields (head_fields (Ok (Head.Function h)))) }
 {
     put_u16(out, 0, h.number);
     put_u8(out, 2, FUNCTION_TYPE);
@@ -62,7 +62,7 @@ fn put_function(out: &mut [u8], h: FunctionHead)
 }
 
 fn put_state(out: &mut [u8], h: StateHead)
-    ensures { out.new ≡ sets out.old 0 (bytes_of_fields (head_fields (Kind.Of (Head.State h)))) }
+    ensures { out.new ≡ sets out.old 0 (bytes_of_fields (head_fields (Ok (Head.State h)))) }
 {
     put_u16(out, 0, h.number);
     put_u8(out, 2, STATE_TYPE);
@@ -72,7 +72,7 @@ fn put_state(out: &mut [u8], h: StateHead)
 }
 
 pub fn put_head(out: &mut [u8], head: Head)
-    ensures { out.new ≡ sets out.old 0 (bytes_of_fields (head_fields (Kind.Of head))) }
+    ensures { out.new ≡ sets out.old 0 (bytes_of_fields (head_fields (Ok head))) }
 {
     match head {
         Head::Base(b) => put_base(out, b),
@@ -82,54 +82,48 @@ pub fn put_head(out: &mut [u8], head: Head)
 }
 
 // The fixed part; a refusal has none.
-fn put_fixed(out: &mut [u8], kind: Kind)
+#[tactic(auto, unfolding(crate::specs::Objects::bytes_of_fields))]
+fn put_fixed(out: &mut [u8], kind: Result<Head, usize>)
     ensures { out.new ≡ sets out.old 0 (bytes_of_fields (head_fields kind)) }
 {
     match kind {
-        Kind::Of(head) => put_head(out, head),
-        Kind::Refused(_) => {}
+        Ok(head) => put_head(out, head),
+        Err(_) => {}
     }
 }
 
-// The first n bytes of a label.
-fn put_label(out: &mut [u8], i: usize, label: [u8; 63], n: usize)
-    requires { (i < 65536) × (n ≤ 63) }
-    ensures { out.new ≡ sets out.old i (bytes_of_fields (map (field 1) (take n label))) }
+// The bytes of a label.
+fn put_label(out: &mut [u8], i: usize, label: &[u8])
+    requires { i + length label.now ≤ length out.old }
+    ensures { out.new ≡ sets out.old i (bytes_of_fields (map (field 1) label.now)) }
 {
-    let mut k: usize = 0;
-    while k < n {
-        put_u8(out, i + k, label[k]);
-        k += 1;
+    put_bytes(out, i, label);
+}
+
+// The numbers of a list, two bytes each.
+fn put_list(out: &mut [u8], i: usize, list: &[u16])
+    requires { (i < 65536) × (length list.now ≤ 255) }
+    ensures { out.new ≡ sets out.old i (bytes_of_fields (map (field 2) list.now)) }
+{
+    let mut at = i;
+    for number in list {
+        put_u16(out, at, *number);
+        at += 2;
     }
 }
 
-// The first n numbers of a list.
-fn put_list(out: &mut [u8], i: usize, list: [u16; 255], n: usize)
-    requires { (i < 65536) × (n ≤ 255) }
-    ensures { out.new ≡ sets out.old i (bytes_of_fields (map (field 2) (take n list))) }
+pub fn put_object(out: &mut [u8], object: &Object)
+    requires labels { ((parts_of object.now.kind).version ≤ 63) × ((parts_of object.now.kind).configuration ≤ 63) }
+    requires room { size_of object.now.kind ≤ length out.old }
+    ensures { out.new ≡ sets out.old 0 (encode object.now) }
 {
-    let mut k: usize = 0;
-    while k < n {
-        put_u16(out, i + 2 * k, list[k]);
-        k += 1;
-    }
-}
-
-pub fn put_object(out: &mut [u8], object: Object)
-    requires { ((parts_of object.kind).version ≤ 63) × ((parts_of object.kind).configuration ≤ 63) }
-    ensures { out.new ≡ sets out.old 0 (encode object) }
-{
-    let kind = object.kind;
-    let version = object.version;
-    let configuration = object.configuration;
-    let list = object.list;
-    let parts = parts_of(kind);
+    let parts = parts_of(object.kind);
     let fixed = parts.fixed as usize;
-    let n = parts.version as usize;
-    let m = parts.configuration as usize;
-    let count = parts.list as usize;
-    put_fixed(out, kind);
-    put_label(out, fixed, version, n);
-    put_label(out, fixed + n, configuration, m);
-    put_list(out, fixed + n + m, list, count);
+    let version = &object.version[..parts.version as usize];
+    let configuration = &object.configuration[..parts.configuration as usize];
+    let list = &object.list[..parts.list as usize];
+    put_fixed(out, object.kind);
+    put_label(out, fixed, version);
+    put_label(out, fixed + version.len(), configuration);
+    put_list(out, fixed + version.len() + configuration.len(), list);
 }

@@ -216,6 +216,19 @@ highest_zero n top o h e =
     let none : n / t < 1 = omega arith in
     omega (arith, (div-lt_iff_lt-mul (tens_pos (top - 1))).0 none)
 
+-- so it has no more digits than those above which all are 0
+below_zeros : (n m d : ℕ) → n < 10 ^ (m + d) → ((k : ℕ) → m ≤ k → k < m + d → n / 10 ^ k % 10 ≡ 0) → n < 10 ^ m
+below_zeros n m zero h z = rw add-zero at h
+below_zeros n m (suc d) h z =
+    let e : m + suc d - 1 ≡ m + d = omega arith in
+    below_zeros n m d (rw e at (highest_zero n (m + suc d) (omega arith) h (rw e (z (m + d) (omega arith) (omega arith))))) (λ k a b. z k a (omega arith))
+
+pub below_digits : (digits : List ℕ) (m : ℕ) → digits ≡ low_digits 56 (number_in digits) → m ≤ 56 → ((k : ℕ) → m ≤ k → k < 56 → get_or digits k 0 ≡ 0) → number_in digits < 10 ^ m
+below_digits digits m are h z =
+    let n : ℕ = number_in digits in
+    let e : m + (56 - m) ≡ 56 = omega arith in
+    below_zeros n m (56 - m) (rw e (number_below 56 digits are)) (λ k a b. sym (digit_of 56 digits are k (omega arith)) ∙ z k a (omega arith))
+
 pub highest_digit : (n top : ℕ) → (n / 10 ^ top % 10 ≡ 0 → ⊥) → 10 ^ top ≤ n
 highest_digit n top e =
     let some : 1 ≤ n / 10 ^ top = omega arith in

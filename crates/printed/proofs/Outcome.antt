@@ -10,14 +10,16 @@ use lib.Dec.{T}
 use lib.ListN.{length}
 use lib.Seq.{sets}
 use lib.Ieee.{Float}
+use lib.Ieee.Positive.{positive}
 use Rattle.octets.specs.Numbers.{completed, too_short, wrong_value}
 use Rattle.octets.specs.Pick.{pick}
 use Rattle.shown.specs.Value.{sum_of}
-use Rattle.printed.specs.Text.{last_digits, part_of, text_of}
+use Rattle.printed.specs.Text.{places, last_digits, part_of, text_of}
 use Rattle.printed.specs.Printing.{printable, answer_of, left_of, Prints}
-use Rattle.printed.specs.Steps.{low_digits, number_in, sign_bytes, LaidOut}
+use Rattle.printed.specs.Steps.{low_digits, number_in, sign_bytes}
+use Rattle.printed.specs.LaidOut.{LaidOut}
 use Rattle.printed.specs.declared.Printed.{Printed}
-use Rattle.printed.specs.declared.Laid.{Laid}
+use Rattle.printed.specs.declared.text.Laid.{Laid}
 use Rattle.printed.proofs.Nearby.{one}
 use Rattle.printed.proofs.Decimal.{number_of_low, places_least, drop_below}
 use Rattle.printed.proofs.Texts.{text_is, length_text, sets_front}
@@ -27,6 +29,13 @@ pub number_back : (n : ℕ) (digits : List ℕ) → digits ≡ low_digits 56 n �
 number_back n digits e h =
     let b : number_in digits ≡ n = ap number_in e ∙ number_of_low 56 n h in
     (b, e ∙ ap (low_digits 56) (sym b))
+
+-- the digits before the point and behind it are at most 56
+pub room : (n before decimals : ℕ) → n < 10 ^ 56 → before ≡ places (n / 10 ^ decimals) → decimals ≤ 7 → before + decimals ≤ 56
+room n before decimals fits e d =
+    let split : 56 ≡ 56 - decimals + decimals = omega arith in
+    let h : n < 10 ^ (56 - decimals + decimals) = rw (← split) fits in
+    omega (arith, e, places_least (n / 10 ^ decimals) (56 - decimals) (drop_below n (56 - decimals) decimals h) (omega arith))
 
 -- ---- one outcome: where nothing is printed the number makes no difference
 by_text : (t : Bool) (text text' lent : List ℕ) → (T t → text ≡ text') → (answer_of t text (length lent) ≡ answer_of t text' (length lent)) × (left_of t text lent ≡ left_of t text' lent)
@@ -45,6 +54,9 @@ settled value offset scale decimals lent left left' r r' p q =
     (p.answer ∙ e.0 ∙ sym q.answer, p.leaves ∙ e.1 ∙ sym q.leaves)
 
 -- ---- where the scale or the decimals are refused
+pub bad_scale : (x : Float) (decimals : ℕ) → positive x ≡ false → printable x decimals ≡ false
+bad_scale x decimals e = rw e
+
 pub not_printable : (value : ℕ) (offset : ℤ) (scale : Float) (decimals : ℕ) (lent : List ℕ) (r : Printed) → printable scale decimals ≡ false → r ≡ record { number = wrong_value; length = 0 } → Prints value offset scale decimals lent lent r
 unfolding pick
 not_printable value offset scale decimals lent r e q =
@@ -55,22 +67,13 @@ module _ {value : ℕ} {offset : ℤ} {scale : Float} {decimals : ℕ} {x : Laid
   abbrev back : (number_in x.digits ≡ nat_abs l.n) × (x.digits ≡ low_digits 56 (number_in x.digits))
   back = number_back (nat_abs l.n) x.digits l.digits l.fits
 
-  pub room : x.places + decimals ≤ 56
-  room =
-      let e : 56 ≡ 56 - decimals + decimals = omega arith in
-      let h : nat_abs l.n < 10 ^ (56 - decimals + decimals) = rw (← e) l.fits in
-      omega (arith, l.before_point, places_least (nat_abs l.n / 10 ^ decimals) (56 - decimals) (drop_below (nat_abs l.n) (56 - decimals) decimals h) (omega arith))
+  its_text : sign_bytes x.below ++ last_digits x.places (number_in x.digits / 10 ^ x.decimals) ++ part_of x.decimals (number_in x.digits) ≡ text_of decimals l.n
+  its_text = rw (l.same, l.below, l.before_point, back.0) (sym (text_is decimals l.n))
 
-  pub its_digits : x.digits ≡ low_digits 56 (number_in x.digits)
-  its_digits = back.1
+  its_length : length (sign_bytes x.below) + x.places + length (part_of x.decimals 0) ≡ length (text_of decimals l.n)
+  its_length = rw (l.same, l.below, l.before_point) (sym (length_text decimals l.n))
 
-  its_text : sign_bytes x.below ++ last_digits x.places (number_in x.digits / 10 ^ decimals) ++ part_of decimals (number_in x.digits) ≡ text_of decimals l.n
-  its_text = rw (l.below, l.before_point, back.0) (sym (text_is decimals l.n))
-
-  its_length : length (sign_bytes x.below) + x.places + length (part_of decimals 0) ≡ length (text_of decimals l.n)
-  its_length = rw (l.below, l.before_point) (sym (length_text decimals l.n))
-
-  module _ (p : printable scale decimals ≡ true) (lent : List ℕ) (count : ℕ) (c : count ≡ length (sign_bytes x.below) + x.places + length (part_of decimals 0)) where
+  module _ (p : printable scale decimals ≡ true) (lent : List ℕ) (count : ℕ) (c : count ≡ length (sign_bytes x.below) + x.places + length (part_of x.decimals 0)) where
     pub too_short_lem : (r : Printed) → length lent < count → r ≡ record { number = too_short; length = 0 } → Prints value offset scale decimals lent lent r
     unfolding pick
     too_short_lem r h q =
@@ -78,7 +81,7 @@ module _ {value : ℕ} {offset : ℤ} {scale : Float} {decimals : ℕ} {x : Laid
         record { n = l.n; nearest = λ t. l.nearest; answer = rw (p, f) q; leaves = rw (p, f) }
 
     pub written : (left : List ℕ) → count ≤ length lent
-        → left ≡ sets lent 0 (sign_bytes x.below ++ last_digits x.places (number_in x.digits / 10 ^ decimals) ++ part_of decimals (number_in x.digits))
+        → left ≡ sets lent 0 (sign_bytes x.below ++ last_digits x.places (number_in x.digits / 10 ^ x.decimals) ++ part_of x.decimals (number_in x.digits))
         → Prints value offset scale decimals lent left (record { number = completed; length = count })
     unfolding pick
     written left h q =

@@ -1,8 +1,8 @@
 -- What printing gives back, and what it leaves in the lent bytes. Definitions only.
-use Rattle.std.specs.Prelude.{◌≡◌, ℕ, Bool, ◌&&◌, List, ◌++◌, ℤ, T, leb, length, drop, Float}
+use Rattle.std.specs.Prelude.{◌≡◌, ℕ, Bool, ◌&&◌, List, ◌++◌, ℤ, T, leb, length, drop, Float, Result, Ok, Err}
 use Rattle.std.specs.Float.Ieee.Positive.{positive}
 use Rattle.octets.specs.Numbers.{completed, too_short, wrong_value}
-use Rattle.octets.specs.Pick.{pick}
+use Rattle.octets.specs.{Pick.pick, Refusals.refusal_number, declared.numbers.Refusal.Refusal}
 use Rattle.shown.specs.Value.{sum_of}
 use Rattle.printed.specs.Number.{Nearest}
 use Rattle.printed.specs.Text.{text_of}
@@ -11,6 +11,11 @@ use Rattle.printed.specs.declared.Printed.{Printed}
 -- "Refusals: here 4 first, also for decimals above 7"
 abbrev pub printable : Float → ℕ → Bool
 printable scale decimals = positive scale && leb decimals 7
+
+-- what is told of how many bytes were written, or of why none were
+abbrev pub printed_as : Result ℕ Refusal → Printed
+printed_as (Ok length) = record { number = completed; length = length }
+printed_as (Err why) = record { number = refusal_number why; length = 0 }
 
 -- "then 1 if the text has no room"
 abbrev pub answer_of : Bool → List ℕ → ℕ → Printed

@@ -1,11 +1,8 @@
 -- How the code comes to the text: what its own functions give one another. Nothing that is promised stands here.
-use Rattle.std.specs.Prelude.{◌≡◌, ℕ, zero, suc, ◌+◌, ◌*◌, ◌/◌, ◌%◌, ◌^◌, ◌<◌, Bool, true, false, cond, not, ◌&&◌, List, [], ◌∷◌, ℤ, nat_abs, eqb, Float}
+use Rattle.std.specs.Prelude.{◌≡◌, ℕ, zero, suc, ◌+◌, ◌*◌, ◌/◌, ◌%◌, ◌^◌, ◌<◌, Bool, true, false, cond, not, ◌&&◌, List, [], ◌∷◌, eqb}
 use Rattle.std.specs.Float.Ieee.Nearest.{closest}
-use Rattle.shown.specs.Value.{sum_of, negative}
-use Rattle.printed.specs.Number.{Nearest}
-use Rattle.printed.specs.Text.{minus, places}
+use Rattle.printed.specs.Text.{minus}
 use Rattle.printed.specs.declared.number.Number.{Number}
-use Rattle.printed.specs.declared.Laid.{Laid}
 
 -- to the nearest, from halves of a last digit and whether something is left over
 abbrev pub round_halves : ℕ → Bool → ℕ
@@ -43,12 +40,3 @@ number_in (d ∷ ds) = d + 10 * number_in ds
 abbrev pub sign_bytes : Bool → List ℕ
 sign_bytes true = minus ∷ []
 sign_bytes false = []
-
--- what is written: the number that is printed, taken apart
-pub record LaidOut (value : ℕ) (offset : ℤ) (scale : Float) (decimals : ℕ) (x : Laid) : Type 0 where
-  pub n : ℤ
-  pub nearest : Nearest n (sum_of value offset) scale decimals
-  pub below : x.below ≡ negative n
-  pub digits : x.digits ≡ low_digits 56 (nat_abs n)
-  pub fits : nat_abs n < 10 ^ 56
-  pub before_point : x.places ≡ places (nat_abs n / 10 ^ decimals)

@@ -5,16 +5,18 @@ ghost use Rattle.std.specs.Prelude.{◌≡◌, true, ◌≤◌};
 ghost use Rattle.std.specs.Float.{binary32};
 ghost use Rattle.std.specs.Float.Ieee.{of_bits};
 ghost use Rattle.std.specs.Float.Ieee.Positive.{positive};
-ghost use Rattle.printed.specs.Printing.{Prints};
-ghost use Rattle.printed.specs.Steps.{LaidOut};
+ghost use Rattle.printed.specs.Printing.{Prints, printed_as};
+ghost use Rattle.printed.specs.LaidOut.{LaidOut};
 ghost use Rattle.printed.specs.Promises.{PrintedText};
 ghost use Rattle.printed.specs.Examples.{PrintedExamples};
 
-use octets::numbers::{DONE, TOO_SHORT, WRONG_VALUE};
+use octets::numbers::{DONE, Refusal};
 
 mod digits;
 mod number;
 mod text;
+
+use text::Laid;
 
 // Number 0 and how many bytes of text were written, or the refusal and length 0.
 #[repr(C)]
@@ -24,20 +26,20 @@ pub struct Printed {
     pub length: usize,
 }
 
-// What is written: a minus sign or none, so many places before the point, and the digits, the lowest first.
-#[derive(Clone, Copy)]
-pub struct Laid {
-    pub below: bool,
-    pub places: usize,
-    pub digits: [u8; 56],
-}
+impl From<Result<usize, Refusal>> for Printed {
+    ghost from_gives = { λ outcome printed. printed ≡ printed_as outcome };
 
-fn refused(number: u8) -> Printed
-    ensures { result ≡ record { number = number; length = 0 } }
-{
-    Printed {
-        number: number,
-        length: 0,
+    fn from(outcome: Result<usize, Refusal>) -> Printed {
+        match outcome {
+            Ok(length) => Printed {
+                number: DONE,
+                length,
+            },
+            Err(why) => Printed {
+                number: why.number(),
+                length: 0,
+            },
+        }
     }
 }
 
@@ -52,42 +54,45 @@ fn laid_out(value: u32, offset: i32, scale: u32, decimals: u32) -> Laid
     let digits = digits::digits_of(printed, tens);
     Laid {
         below: fraction.below & ((printed.whole != 0) | (printed.part != 0)),
-        places: digits::places_of(digits, decimals as usize),
-        digits: digits,
+        places: digits::places_of(&digits, decimals as usize),
+        decimals: decimals as usize,
+        digits,
     }
 }
 
-// From the scale's 32 bits.
-fn print_bits(value: u32, offset: i32, scale: u32, decimals: u32, out: &mut [u8]) -> Printed
-    ensures { Prints value offset (of_bits binary32 scale) decimals out.old out.new result }
+// From the scale's 32 bits: how many bytes of text were written.
+fn print_bits(
+    value: u32,
+    offset: i32,
+    scale: u32,
+    decimals: u32,
+    out: &mut [u8],
+) -> Result<usize, Refusal>
+    ensures { Prints value offset (of_bits binary32 scale) decimals out.old out.new (printed_as result) }
 {
     if !shown::finite_above_zero(scale) {
-        return refused(WRONG_VALUE);
+        return Err(Refusal::WrongValue);
     }
     if 7 < decimals {
-        return refused(WRONG_VALUE);
+        return Err(Refusal::WrongValue);
     }
     let laid = laid_out(value, offset, scale, decimals);
-    let length = text::length_of(laid.below, laid.places, decimals as usize);
+    let length = laid.length();
     if out.len() < length {
-        return refused(TOO_SHORT);
+        return Err(Refusal::TooShort);
     }
-    let digits = laid.digits;
-    text::put(out, laid.below, laid.places, digits, decimals as usize);
-    Printed {
-        number: DONE,
-        length: length,
-    }
+    laid.put(out);
+    Ok(length)
 }
 
-// From an f32. A NaN differs from itself, and has no bits of its own.
+// From an f32. A NaN has no bits of its own.
 pub fn print(value: u32, offset: i32, scale: f32, decimals: u32, out: &mut [u8]) -> Printed
     ensures { Prints value offset scale decimals out.old out.new result }
 {
-    if scale != scale {
-        return refused(WRONG_VALUE);
+    if scale.is_nan() {
+        return Printed::from(Err(Refusal::WrongValue));
     }
-    print_bits(value, offset, f32::to_bits(scale), decimals, out)
+    Printed::from(print_bits(value, offset, scale.to_bits(), decimals, out))
 }
 
 // The worked examples hold of the definitions that the contracts above cite.

@@ -23,13 +23,7 @@ pub fn ten_to(decimals: u32) -> u64
     requires { decimals ≤ 7 }
     ensures { result ≡ 10 ^ decimals }
 {
-    let mut tens: u64 = 1;
-    let mut k: u32 = 0;
-    while k < decimals {
-        tens = tens * 10;
-        k += 1;
-    }
-    tens
+    10u64.pow(decimals)
 }
 
 // To the nearest, from halves of a last digit; more where something is left over. One half and nothing more is a tie.

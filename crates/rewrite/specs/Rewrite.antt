@@ -1,14 +1,21 @@
 -- A pool taken apart object by object and written again. 01, "Numbers a call gives back": "1 .. lent output too short"; "6 .. pool refused, with
 -- the D.9 code and object number"; "Where several apply: 1, 4, 3, 2, then the rest".
-use Rattle.std.specs.Prelude.{ℕ, List, ◌++◌, length, drop, ltb, eqb}
+use Rattle.std.specs.Prelude.{ℕ, List, ◌++◌, length, drop, ltb, eqb, Result, Ok, Err}
 use Rattle.octets.specs.Pick.{pick}
 use Rattle.octets.specs.Numbers.{completed, too_short, pool_refused}
 use Rattle.pool.specs.Pool.{verdict_of}
 use Rattle.objects.specs.Objects.{decode_all, encode_all}
-use Rattle.rewrite.specs.declared.Rewritten.{Rewritten}
+use Rattle.rewrite.specs.{declared.Rewritten.Rewritten, declared.Refused.Refused}
+use Rattle.rewrite.specs.declared.Refused.TheVariants.{TooShort, Pool}
 
 abbrev pub rewritten : ℕ → ℕ → ℕ → Rewritten
 rewritten n c o = record { number = n; code = c; object = o }
+
+-- what is told of an outcome: of a pool that is refused the code and the object
+abbrev pub rewritten_as : {T : Type 0} → Result T Refused → Rewritten
+rewritten_as (Ok _) = rewritten completed 0 0
+rewritten_as (Err TooShort) = rewritten too_short 0 0
+rewritten_as (Err (Pool why)) = rewritten pool_refused why.code why.object
 
 unfoldable pub rewrite_answer : List ℕ → List ℕ → Rewritten
 rewrite_answer s out =

@@ -77,7 +77,7 @@ pub fn scm_write_object(object: FlatObject, place: usize, out: &mut [u8]) -> obj
     ensures value { result ≡ write_answer (object_from object) out.old place }
     ensures out_after { out.new ≡ write_out (object_from object) out.old place }
 {
-    flat_object::write(object, place, out)
+    flat_object::write(&object, place, out)
 }
 
 // A pool taken apart and written again.

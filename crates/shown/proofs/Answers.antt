@@ -7,7 +7,7 @@ use mathlib.Core.Bool.{Bool, true, false, cond}
 use denote.Floats.{passes}
 use lib.IntN.{ℤ, pos, negsuc, ◌*ℤ◌, nat_abs}
 use lib.Dec.{T, eqb→eq, eqb_refl, lit<}
-use lib.Ieee.{Float, fin, binary32, binary64, of_bits}
+use lib.Ieee.{Float, fin, binary32, of_bits}
 use lib.Ieee.Bits.{is_true}
 use lib.Ieee.Fits.{and_i, and_l, and_r}
 use lib.Ieee.Scale.{finite}
@@ -102,12 +102,8 @@ module _ (value : ℕ) (offset : ℤ) (bits : ℕ) (taken : positive (of_bits bi
   shows h = let e : given ≡ shown_of value offset scale = rw (taken, test_is h) in (e, λ t. rw e says)
 
 -- ---- any other
-zero_bits : of_bits binary64 0 ≡ fin false 0 (pos 0)
-unfolding of_bits
-zero_bits = refl
-
 abbrev pub refusal : Shown
-refusal = record { number = wrong_value; exact = 0; value = of_bits binary64 0 }
+refusal = record { number = wrong_value; exact = 0; value = fin false 0 (pos 0) }
 
 pub refuses : (value : ℕ) (offset : ℤ) (x : Float) → positive x ≡ false → (refusal ≡ shown_of value offset x) × Exact value offset x refusal
-refuses value offset x e = rw (zero_bits, e) (refl, λ t. absurd t)
+refuses value offset x e = rw e (refl, λ t. absurd t)

@@ -121,3 +121,10 @@ unfolding is_nan
 number test nan n e = absurd (true≢false (sym e ∙ n))
 number test (inf s) n e = tt
 number test (fin s m d) n e = tt
+
+-- a NaN is neither finite nor above zero
+pub nan_refused : (x : Float) → is_nan x ≡ true → positive x ≡ false
+unfolding is_nan
+nan_refused nan e = refl
+nan_refused (inf s) e = absurd (true≢false (sym e))
+nan_refused (fin s m x) e = absurd (true≢false (sym e))

@@ -1,17 +1,16 @@
 -- The exact sum of a u32 and an i32 has at most 33 digits: an i64 holds it, and so does an f64.
-use mathlib.Core.Path.{◌≡◌, refl}
+use mathlib.Core.Path.{◌≡◌}
 use Prim.Native.Nat.{ℕ, ◌^◌, ◌≤◌, ◌<◌}
 use native.Mathlib.Nat.{le_refl, lt_trans, lt_of_le_of_lt}
 use native.Mathlib.Omega.{arith}
 use lib.IntN.{ℤ, pos, negsuc, nat_abs}
-use lib.Signed.{mag, lt_z}
+use lib.Signed.{mag}
 use lib.Dec.{T, le→leb, lt→ltb, lit<}
 use lib.Ieee.{binary64, in_float}
-use borrow.Author.Tests.{le-ltb}
 use mir.Syntax.{w32, w64}
 use mir.Val.{Fits, SFits, to_z, of_z}
 use mir.Facts.{to_z-of_z}
-use Rattle.shown.specs.Value.{sum_of, negative}
+use Rattle.shown.specs.Value.{sum_of}
 use Rattle.shown.proofs.Bits.{sum_few}
 
 mag_le : (z : ℤ) → mag z ≤ nat_abs z
@@ -22,10 +21,6 @@ in_float_lem : (z : ℤ) → mag z < 2 ^ 53 → T (in_float binary64 z)
 unfolding in_float
 in_float_lem (pos n) h = le→leb n (2 ^ 53) (omega arith)
 in_float_lem (negsuc n) h = lt→ltb n (2 ^ 53) h
-
-below_zero : (z : ℤ) → lt_z z (pos 0) ≡ negative z
-below_zero (pos n) = le-ltb n 0 (omega arith)
-below_zero (negsuc n) = refl
 
 module _ {v : ℕ} {o : ℤ} (fv : Fits w32 v) (fo : SFits w32 o) where
   pub bounded : mag (sum_of v o) < 2 ^ 53
@@ -38,9 +33,6 @@ module _ {v : ℕ} {o : ℤ} (fv : Fits w32 v) (fo : SFits w32 o) where
   module _ {z : ℤ} (e : z ≡ sum_of v (to_z w32 (of_z w32 o))) where
     pub is_sum : to_z w64 (of_z w64 z) ≡ sum_of v o
     is_sum = rw (e, to_z-of_z fo, to_z-of_z in_word)
-
-    pub sum_below : lt_z (to_z w64 (of_z w64 z)) (pos 0) ≡ negative (sum_of v o)
-    sum_below = rw is_sum (below_zero (sum_of v o))
 
     pub sum_in_float : T (in_float binary64 (to_z w64 (of_z w64 z)))
     sum_in_float = rw is_sum (in_float_lem (sum_of v o) bounded)

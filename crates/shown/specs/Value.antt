@@ -1,12 +1,13 @@
 -- 01, "The shown value", each sentence above the line that says it. Definitions only.
 -- A Float is `nan`, `inf s` or `fin s m e`, the number m · 2^e, negative where s is true. Its size is the fraction num / den of whole numbers.
-use Rattle.std.specs.Prelude.{◌≡◌, ℕ, ◌*◌, ◌^◌, ◌<◌, Bool, true, false, cond, ◌&&◌, ℤ, pos, negsuc, neg_ℤ, ◌+ℤ◌, ◌*ℤ◌, nat_abs, T, eqb, Float}
+use Rattle.std.specs.Prelude.{◌≡◌, ℕ, ◌*◌, ◌^◌, ◌<◌, Bool, true, false, cond, ◌&&◌, ℤ, pos, negsuc, neg_ℤ, ◌+ℤ◌, ◌*ℤ◌, nat_abs, T, eqb, Float, Result, Ok, Err}
 use Rattle.std.specs.Float.{nan, inf, fin, binary64}
 use Rattle.std.specs.Float.Ieee.{up, round}
 use Rattle.std.specs.Float.Ieee.Scale.{finite}
 use Rattle.std.specs.Float.Ieee.Positive.{positive, num, den}
 use Rattle.octets.specs.Numbers.{completed, wrong_value}
-use Rattle.shown.specs.declared.Shown.{Shown}
+use Rattle.octets.specs.{Refusals.refusal_number, declared.numbers.Refusal.Refusal}
+use Rattle.shown.specs.{declared.Rounded.Rounded, declared.Shown.Shown}
 
 -- "(value + offset) · scale, the sum exact"
 abbrev pub sum_of : ℕ → ℤ → ℤ
@@ -48,6 +49,11 @@ shown_of value offset scale =
     cond (positive scale)
     (record { number = completed; exact = cond (is_product product (sum_of value offset) scale) 1 0; value = product })
     (record { number = wrong_value; exact = 0; value = fin false 0 (pos 0) })
+
+-- what is shown of a product, or of its refusal
+abbrev pub shown_as : Result Rounded Refusal → Shown
+shown_as (Ok product) = record { number = completed; exact = cond product.exact 1 0; value = product.value }
+shown_as (Err why) = record { number = refusal_number why; exact = 0; value = fin false 0 (pos 0) }
 
 -- where the scale is finite and above zero
 pub record SaysExact (value : ℕ) (offset : ℤ) (scale : Float) (r : Shown) : Type 0 where

@@ -5,12 +5,12 @@ ghost use Rattle.std.specs.Prelude.{◌≡◌, ◌<◌, ◌^◌, nat_abs};
 ghost use Rattle.std.specs.Float.{binary32};
 ghost use Rattle.std.specs.Float.Ieee.{of_bits};
 ghost use Rattle.std.specs.Float.Ieee.Positive.{positive};
-ghost use Rattle.shown.specs.Value.{sum_of, negative, shown_of, Exact};
+ghost use Rattle.shown.specs.Value.{sum_of, negative, shown_of, shown_as, Exact};
 ghost use Rattle.shown.specs.Whole.{digits_of, power_of, fraction_of, is_held};
 ghost use Rattle.shown.specs.Promises.{ShownValue};
 ghost use Rattle.shown.specs.Examples.{ShownExamples};
 
-use octets::numbers::{DONE, WRONG_VALUE};
+use octets::numbers::{DONE, Refusal};
 
 // Number 0, the shown value, and exact 1 where it is the exact product, else 0; or number 4, value 0 and exact 0.
 #[repr(C)]
@@ -21,6 +21,32 @@ pub struct Shown {
     pub value: f64,
 }
 
+// The product as the nearest f64, and whether that is the exact product.
+#[derive(Clone, Copy)]
+pub struct Rounded {
+    pub value: f64,
+    pub exact: bool,
+}
+
+impl From<Result<Rounded, Refusal>> for Shown {
+    ghost from_gives = { λ outcome shown. shown ≡ shown_as outcome };
+
+    fn from(outcome: Result<Rounded, Refusal>) -> Shown {
+        match outcome {
+            Ok(product) => Shown {
+                number: DONE,
+                exact: product.exact as u8,
+                value: product.value,
+            },
+            Err(why) => Shown {
+                number: why.number(),
+                exact: 0,
+                value: 0.0,
+            },
+        }
+    }
+}
+
 // The exact product as a fraction: size * 2^power / 2^149, and below zero where the sum is.
 #[derive(Clone, Copy)]
 pub struct Fraction {
@@ -28,13 +54,6 @@ pub struct Fraction {
     pub size: u64,
     pub power: u64,
 }
-
-// "A scale not finite and above zero, as style 00 has it, gives 4 and value 0."
-const REFUSED: Shown = Shown {
-    number: WRONG_VALUE,
-    exact: 0,
-    value: 0.0,
-};
 
 // Finite and above zero, of the 32 bits of a scale: 1 to 7F7FFFFF.
 pub fn finite_above_zero(scale: u32) -> bool
@@ -54,12 +73,7 @@ fn sum_of(value: u32, offset: i32) -> i64
 fn sum_size(value: u32, offset: i32) -> u64
     ensures { result ≡ nat_abs (sum_of value offset) }
 {
-    let sum = sum_of(value, offset);
-    if sum < 0 {
-        (0 - sum) as u64
-    } else {
-        sum as u64
-    }
+    sum_of(value, offset).unsigned_abs()
 }
 
 fn sum_below(value: u32, offset: i32) -> bool
@@ -110,33 +124,38 @@ fn held(size: u64) -> bool
         | (size % 16 == 0)
 }
 
+// From the scale's 32 bits: "A scale not finite and above zero, as style 00 has it, gives 4".
+fn product_of(value: u32, offset: i32, scale: u32) -> Result<Rounded, Refusal>
+    ensures value { shown_as result ≡ shown_of value offset (of_bits binary32 scale) }
+    ensures exact { Exact value offset (of_bits binary32 scale) (shown_as result) }
+{
+    if !finite_above_zero(scale) {
+        return Err(Refusal::WrongValue);
+    }
+    let product = sum_of(value, offset) as f64 * f32::from_bits(scale) as f64;
+    Ok(Rounded {
+        value: product,
+        exact: held(fraction_of(value, offset, scale).size),
+    })
+}
+
 // From the scale's 32 bits, as they stand in a pool.
 pub fn shown_bits(value: u32, offset: i32, scale: u32) -> Shown
     ensures value { result ≡ shown_of value offset (of_bits binary32 scale) }
     ensures exact { Exact value offset (of_bits binary32 scale) result }
 {
-    if finite_above_zero(scale) {
-        let product = sum_of(value, offset) as f64 * f32::from_bits(scale) as f64;
-        Shown {
-            number: DONE,
-            exact: held(fraction_of(value, offset, scale).size) as u8,
-            value: product,
-        }
-    } else {
-        REFUSED
-    }
+    Shown::from(product_of(value, offset, scale))
 }
 
-// From an f32. A NaN differs from itself, and has no bits of its own.
+// From an f32. A NaN has no bits of its own.
 pub fn shown_of(value: u32, offset: i32, scale: f32) -> Shown
     ensures value { result ≡ shown_of value offset scale }
     ensures exact { Exact value offset scale result }
 {
-    if scale != scale {
-        REFUSED
-    } else {
-        shown_bits(value, offset, f32::to_bits(scale))
+    if scale.is_nan() {
+        return Shown::from(Err(Refusal::WrongValue));
     }
+    shown_bits(value, offset, scale.to_bits())
 }
 
 // The worked examples hold of the definitions that the contracts above cite.

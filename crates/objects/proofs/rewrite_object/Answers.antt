@@ -4,7 +4,7 @@ use lib.ListN.{length}
 use lib.Seq.{length-sets}
 use Rattle.octets.proofs.Laws.{Bytes}
 use Rattle.objects.specs.declared.parts.Parts.{Parts}
-use Rattle.objects.specs.declared.Kind.TheVariants.{Of}
+use Rattle.std.specs.Prelude.{Ok}
 use Rattle.objects.specs.Objects.{head_fields, bytes_of_fields}
 use Rattle.objects.proofs.Stores.{part_stored}
 use Rattle.objects.proofs.Passed.{is_at_lem}
@@ -51,7 +51,7 @@ pub put_bytes-requires : goal.put_bytes-requires
 put_bytes-requires c =
     let t = taken _ _ _ _ _ c.requires.0 c.head_at-head.ensures c.head_parts-parts.ensures c.size_of.ensures.value in
     let i = is_at_lem _ _ c.requires.0 in
-    let stored = part_stored c.args.at c.args.out.now c.put_head.new.out (bytes_of_fields (head_fields (Of c.head_at-head.result))) (omega arith) c.put_head.ensures in
+    let stored = part_stored c.args.at c.args.out.now c.put_head.new.out (bytes_of_fields (head_fields (Ok c.head_at-head.result))) (omega arith) c.put_head.ensures in
     omega (arith, t.first, t.room, c.requires.1, simp length-sets at (ap length stored))
 
 pub returns : goal.returns
@@ -59,5 +59,5 @@ returns c =
     let bytes : Bytes c.args.pool.now = λ k. (c.type_inv.pool k).fits in
     let t = taken _ _ _ _ _ c.requires.0 c.head_at-head.ensures c.head_parts-parts.ensures c.size_of.ensures.value in
     let i = is_at_lem _ _ c.requires.0 in
-    let stored = part_stored c.args.at c.args.out.now c.put_head.new.out (bytes_of_fields (head_fields (Of c.head_at-head.result))) (omega arith) c.put_head.ensures in
+    let stored = part_stored c.args.at c.args.out.now c.put_head.new.out (bytes_of_fields (head_fields (Ok c.head_at-head.result))) (omega arith) c.put_head.ensures in
     record { value = next_taken _ _ _ _ t; out_after = c.put_bytes.ensures ∙ rw (stored, c.head_at-head.ensures) (out_taken _ _ _ _ t bytes c.args.out.now c.requires.1) }

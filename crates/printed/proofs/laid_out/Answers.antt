@@ -1,5 +1,5 @@
 -- `printed::laid_out` meets its contract: the two parts that are made are those of the nearest number, and the digits are taken from it.
-use mathlib.Core.Path.{◌≡◌, ap, ◌∙◌}
+use mathlib.Core.Path.{◌≡◌, refl, ap, ◌∙◌}
 use Prim.Native.Nat.{ℕ, ◌^◌, ◌≤◌, ◌<◌}
 use native.Mathlib.Nat.{zero-lt-suc, pow-le-pow_right}
 use native.Mathlib.Omega.{arith}
@@ -21,7 +21,7 @@ use Rattle.printed.proofs.Signs.{signed, size_signed}
 use Rattle.printed.proofs.Nearby.{nearest_of, is_nearest}
 use Rattle.printed.proofs.Sizes.{fits}
 use Rattle.printed.proofs.Made.{made_is, below_is}
-use Rattle.printed.proofs.Outcome.{number_back}
+use Rattle.printed.proofs.Outcome.{number_back, room}
 use Rattle.printed.proofs.laid_out.Goals as goal
 
 tens_few : (decimals tens : ℕ) → tens ≡ 10 ^ decimals → decimals ≤ 7 → (1 ≤ tens) × (tens ≤ 10 ^ 7)
@@ -69,6 +69,15 @@ places_of-requires c =
     let small = n_fits a.value a.offset a.scale a.decimals c.ranges.value.fits (nat_abs-le a.offset c.ranges.offset.sfits) c.requires.0 c.requires.1 in
     (c.requires.1, (number_back _ c.digits_of-digits.result (c.digits_of-digits.ensures ∙ ap (low_digits 56) value) small).1)
 
+pub invariant_of-result : goal.invariant_of-result
+invariant_of-result c =
+    let a = c.args in
+    let f : c.fraction_of-fraction.result ≡ fraction_of a.value a.offset a.scale = rw (to_z-of_z c.ranges.offset) at c.fraction_of-fraction.ensures in
+    let value = value_is a.value a.offset a.scale a.decimals c.fraction_of-fraction.result c.ten_to-tens.result c.number_of-printed.result f c.ten_to-tens.ensures c.requires.0 c.number_of-printed.ensures in
+    let small = n_fits a.value a.offset a.scale a.decimals c.ranges.value.fits (nat_abs-le a.offset c.ranges.offset.sfits) c.requires.0 c.requires.1 in
+    let back = number_back _ c.digits_of-digits.result (c.digits_of-digits.ensures ∙ ap (low_digits 56) value) small in
+    record { room = room _ _ a.decimals small (c.places_of.ensures ∙ rw back.0) c.requires.1; few = c.requires.1; are = back.1 }
+
 pub returns : goal.returns
 unfolding fraction_of
 returns c =
@@ -84,6 +93,7 @@ returns c =
     record {
       n = n a.value a.offset a.scale a.decimals;
       nearest = is_nearest (of_bits binary32 a.scale) a.decimals z;
+      same = refl;
       below = rw f (sign ∙ ap (λ (k : ℕ). negative (signed (negative z) k)) (value ∙ size_signed (negative z) _));
       digits = digits_are;
       fits = small;

@@ -28,6 +28,7 @@ either value offset x true e = rw e (bit (is_product (product_of (sum_of value o
 either value offset x false e = rw e (omega arith)
 
 pub returns : goal.returns
+unfolding of_bits
 returns c =
     record {
       exact = λ value offset bits l h. small_exact value offset bits (taken bits l h);

@@ -3,7 +3,7 @@ use mathlib.Core.Path.{ap, ◌∙◌}
 use lib.ListN.{length}
 use lib.Seq.{length-sets}
 use Rattle.pool.specs.declared.Head.TheVariants.{Base}
-use Rattle.objects.specs.declared.Kind.TheVariants.{Of}
+use Rattle.std.specs.Prelude.{Ok}
 use Rattle.objects.specs.Objects.{head_fields}
 use Rattle.objects.proofs.Stores.{stored_all}
 use Rattle.objects.proofs.write.put_base.Goals as goal
@@ -11,7 +11,7 @@ use Rattle.objects.proofs.write.put_base.Goals as goal
 pub returns : goal.returns
 returns c =
     let a = c.args in
-    rw (c.put_u8-5.ensures, c.put_u8-4.ensures, c.put_u8-3.ensures, c.put_u16-3.ensures, c.put_u16-2.ensures, c.put_u64-2.ensures, c.put_u64.ensures, c.put_u8-2.ensures, c.put_u8.ensures, c.put_u16.ensures) (stored_all a.out.now 0 (head_fields (Of (Base a.h))))
+    rw (c.put_u8-5.ensures, c.put_u8-4.ensures, c.put_u8-3.ensures, c.put_u16-3.ensures, c.put_u16-2.ensures, c.put_u64-2.ensures, c.put_u64.ensures, c.put_u8-2.ensures, c.put_u8.ensures, c.put_u16.ensures) (stored_all a.out.now 0 (head_fields (Ok (Base a.h))))
 
 pub shape_of-out : goal.shape_of-out
 shape_of-out c = ap length (returns c) ∙ simp length-sets

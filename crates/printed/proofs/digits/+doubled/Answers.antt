@@ -20,5 +20,5 @@ pub returns : goal.returns
 returns t c =
     let a = c.args in
     let e : a.power ≡ 26 + (a.power - 26) = omega arith in
-    let twice = low_doubled 56 (number_in a.digits) 26 (a.power - 26) in
+    let twice = low_doubled 56 (number_in a.digits.now) 26 (a.power - 26) in
     rw (c.doubled.ensures, c.scaled-more.ensures) (rw (← e) at twice)

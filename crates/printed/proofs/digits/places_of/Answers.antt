@@ -1,28 +1,30 @@
--- `printed::digits::places_of` meets its contract: what the digit that a turn looks at says of the number.
-use mathlib.Core.Path.{sym, ◌∙◌}
-use Prim.Native.Nat.{◌-◌}
+-- `printed::digits::places_of` meets its contract: what the highest digit that is not zero says of the number.
+use mathlib.Core.Path.{◌≡◌, sym}
+use Prim.Native.Nat.{◌+◌, ◌-◌}
 use native.Mathlib.Omega.{arith}
+use borrow.Author.Rules.{rules}
 use Rattle.printed.specs.Steps.{number_in}
-use Rattle.printed.proofs.Decimal.{digit_of, number_below, highest_zero, highest_digit, one_place, places_from_top}
+use Rattle.printed.proofs.Decimal.{digit_of, below_digits, highest_digit, one_place, places_from_top}
 use Rattle.printed.proofs.digits.places_of.Goals as goal
 
-pub loop-top-init : goal.loop-top-init
-loop-top-init c = (omega arith, number_below 56 c.args.digits c.requires.1)
+pub returns-in-Some : goal.returns-in-Some
+returns-in-Some c =
+    let digits = c.args.digits.now in
+    let top = c.in-Some.top in
+    let below = below_digits digits (top + 1) c.requires.1 (search rules) (search rules) in
+    let looked = digit_of 56 digits c.requires.1 top (search rules) in
+    let least = highest_digit (number_in digits) top (λ e. absurd (search rules)) in
+    let e : top + 1 - 1 ≡ top = omega arith in
+    sym (places_from_top (number_in digits) c.args.decimals (top + 1) (omega (arith, c.if-decimals-top.true)) (rw e least) below)
 
-pub returns-then-digits-top-ne0 : goal.returns-then-digits-top-ne0
-returns-then-digits-top-ne0 c =
-    let a = c.args in
-    let l = c.loop-top in
-    let looked = digit_of 56 a.digits c.requires.1 (l.top - 1) (omega arith) in
-    let least = highest_digit (number_in a.digits) (l.top - 1) (λ e. c.if-digits-top-ne0.true (looked ∙ e)) in
-    sym (places_from_top (number_in a.digits) a.decimals l.top c.loop-top-test.true least l.invariant.1)
+pub returns-in_default : goal.returns-in_default
+returns-in_default c =
+    let digits = c.args.digits.now in
+    let below = below_digits digits (c.in-Some.top + 1) c.requires.1 (search rules) (search rules) in
+    sym (one_place (number_in digits) c.args.decimals (c.in-Some.top + 1) (omega (arith, c.if-decimals-top.false)) below)
 
-pub loop-top-preserved : goal.loop-top-preserved
-loop-top-preserved c =
-    let a = c.args in
-    let l = c.loop-top in
-    let looked = digit_of 56 a.digits c.requires.1 (l.top - 1) (omega arith) in
-    (omega arith, highest_zero (number_in a.digits) l.top (omega arith) l.invariant.1 (sym looked ∙ c.if-digits-top-ne0.false))
-
-pub returns : goal.returns
-returns c = sym (one_place (number_in c.args.digits) c.args.decimals c.loop-top.top c.loop-top-test.false c.loop-top.invariant.1)
+pub returns-in_default-2 : goal.returns-in_default-2
+returns-in_default-2 c =
+    let digits = c.args.digits.now in
+    let below = below_digits digits 0 c.requires.1 (search rules) (search rules) in
+    sym (one_place (number_in digits) c.args.decimals 0 (omega arith) below)
