@@ -53,18 +53,18 @@ impl Master {
         if why != DONE {
             return self.gives(why);
         }
-        let judged = judge(pool);
-        let verdict = judged.verdict;
-        if verdict.code != 0 {
-            return Outcome {
-                number: POOL_REFUSED,
-                code: verdict.code,
-                object: verdict.object,
-                count: 0,
-                master: self,
-            };
-        }
-        let kept = judged.profile;
+        let kept = match judge(pool) {
+            Ok(kept) => kept,
+            Err(fault) => {
+                return Outcome {
+                    number: POOL_REFUSED,
+                    code: fault.code.number(),
+                    object: fault.object,
+                    count: 0,
+                    master: self,
+                };
+            }
+        };
         self.slots[at] = attached(name, kept);
         self.gives(DONE)
     }

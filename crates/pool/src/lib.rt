@@ -161,8 +161,8 @@ fn first_fault(pool: &[u8]) -> Result<(), Fault>
     let walked = before_lists(pool, &mut places)?;
     let mut chain = [0xFFFFu16; 18432];
     let index = Index::new(pool, &places[..walked.count], &mut chain);
-    index.lists_fault(walked.base)?;
-    Ok(())
+    let mut sets = [0u64; 255];
+    index.lists_fault(walked.base, &mut sets)
 }
 
 // The verdict on any bytes at all.

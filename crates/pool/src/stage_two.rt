@@ -1,5 +1,5 @@
 // Stage two: the rules over the whole pool, in their order.
-ghost use Rattle.std.specs.Prelude.{◌≡◌, map, [], ◌+◌, ◌-◌, ◌≤◌, ◌<◌, length, take, drop, replicate, unwrap_or, IfSome, IfOk};
+ghost use Rattle.std.specs.Prelude.{◌≡◌, map, [], ◌+◌, ◌-◌, ◌≤◌, ◌<◌, length, take, drop, replicate, unwrap_or, IfSome, IfOk, OnOk};
 ghost use Rattle.std.specs.List.{list_all};
 ghost use Rattle.octets.specs.Bits.{bits_of};
 ghost use Rattle.pool.specs.Faults.{code_number, said};
@@ -170,14 +170,13 @@ impl<'a> Index<'a> {
     }
 
     // "a listed state absent, 04, likewise; two states of one function with one state ID, 07": every 04 comes before any 07. The functions are taken
-    // from the last to the first, so that the fault of the first stays. Where there is none, the set of the states of each function listed.
-    fn states_fault(&self, list: Listed) -> Result<[u64; 255], Fault>
+    // from the last to the first, so that the fault of the first stays. The set of the states of each function listed is stored.
+    fn states_fault(&self, list: Listed, sets: &mut [u64; 255]) -> Result<(), Fault>
         ensures verdict_value { said result ≡ Verdicts.first (first_fault (states_absent self.now.pool.now self.now.places.now 0x04) (numbers_at 2 self.now.pool.now list.at list.count)) (first_fault (states_alike self.now.pool.now self.now.places.now 0x07) (numbers_at 2 self.now.pool.now list.at list.count)) }
-        ensures sets { IfOk result (λ states. Sets self.now.pool.now self.now.places.now (numbers_at 2 self.now.pool.now list.at list.count) states 0) }
+        ensures sets { Sets self.now.pool.now self.now.places.now (numbers_at 2 self.now.pool.now list.at list.count) sets.new 0 }
     {
         let mut absent = Ok(());
         let mut alike = Ok(());
-        let mut sets = [0u64; 255];
         for k in (0..list.count).rev() {
             let p = self.place_of(ObjectType::Function, list.number(self.pool, k));
             let found = self.list_at(states_of(self.pool, p));
@@ -185,20 +184,19 @@ impl<'a> Index<'a> {
             alike = found.alike.and(alike);
             sets[k] = found.ids;
         }
-        absent.and(alike)?;
-        Ok(sets)
+        absent.and(alike)
     }
 
     // "a listed function absent, 03, naming the listed number; two listed functions with one function ID, 06"; then 04 and 07.
-    pub fn lists_fault(&self, b: usize) -> Result<[u64; 255], Fault>
+    pub fn lists_fault(&self, b: usize, sets: &mut [u64; 255]) -> Result<(), Fault>
         requires { b < 65536 }
         ensures verdict_value { said result ≡ first_of (drop 4 (rules_of self.now.pool.now self.now.places.now b)) }
-        ensures sets { IfOk result (λ states. Sets self.now.pool.now self.now.places.now (functions_of self.now.pool.now b) states 0) }
+        ensures sets { OnOk result (Sets self.now.pool.now self.now.places.now (functions_of self.now.pool.now b) sets.new 0) }
     {
         let list = functions_of(self.pool, b);
         self.absent_fault(Code::NoFunction, ObjectType::Function, list)?;
         self.ids_fault(Code::FunctionTwice, ObjectType::Function, list)?;
-        self.states_fault(list)
+        self.states_fault(list, sets)
     }
 }
 

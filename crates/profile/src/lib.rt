@@ -124,7 +124,8 @@ pub fn judge(pool: &[u8]) -> Result<Profile, Fault>
     let walked = before_lists(pool, &mut places)?;
     let mut chain = [0xFFFFu16; 18432];
     let index = Index::new(pool, &places[..walked.count], &mut chain);
-    let sets = index.lists_fault(walked.base)?;
+    let mut sets = [0u64; 255];
+    index.lists_fault(walked.base, &mut sets)?;
     Ok(kept_at(&index, walked.base, &sets))
 }
 
@@ -132,7 +133,10 @@ pub fn judge(pool: &[u8]) -> Result<Profile, Fault>
 pub fn profile_of(pool: &[u8]) -> Profile
     ensures { result ≡ profile_of pool.now }
 {
-    judge(pool).unwrap_or(blank_profile())
+    match judge(pool) {
+        Ok(profile) => profile,
+        Err(_fault) => blank_profile(),
+    }
 }
 
 // What is kept of every accepted pool says what its lists say, and what is kept of one: nothing is done, the contract says so.

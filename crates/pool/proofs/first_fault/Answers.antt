@@ -4,7 +4,6 @@ use mathlib.Core.Path.{refl, sym}
 use lib.Seq.{length-take-le}
 use Rattle.std.proofs.lemmas.Result.{err_from_is_err_and}
 use Rattle.pool.specs.Faults.{fault_verdict}
-use Rattle.pool.specs.Verdicts.{fine}
 use Rattle.pool.proofs.Faults.{code_not_zero}
 use Rattle.pool.proofs.Stages.{verdict_early, verdict_listed, verdict_long}
 use Rattle.pool.proofs.first_fault.Goals as goal
@@ -27,14 +26,7 @@ new-index-requires c =
     let w = c.in_ok-walked.ensures.walks in
     (omega arith, omega (arith, w.few, length-take-le c.in_ok-walked.walked.count c.before_lists.new.places (omega (arith, w.few))), w.within, refl)
 
-pub returns-in_err-lists_fault : goal.returns-in_err-lists_fault
-returns-in_err-lists_fault c =
-    let p = err_from_is_err_and c.from_residual-in_err-lists_fault.result c.from_residual-in_err-lists_fault.ensures.1 in
-    let w = c.in_ok-walked.ensures in
-    rw (p.1, p.2)
-    (verdict_listed _ _ _ _ (fault_verdict c.in_err-lists_fault.field-0.0) (omega arith) w.walks w.verdict_value (rw (c.new-index.ensures.0, c.new-index.ensures.1) at c.in_err-lists_fault.ensures.verdict_value))
-
 pub returns : goal.returns
 returns c =
     let w = c.in_ok-walked.ensures in
-    verdict_listed _ _ _ _ fine (omega arith) w.walks w.verdict_value (rw (c.new-index.ensures.0, c.new-index.ensures.1) at c.in_ok-lists_fault.ensures.verdict_value)
+    verdict_listed _ _ _ _ _ (omega arith) w.walks w.verdict_value (rw (c.new-index.ensures.0, c.new-index.ensures.1) at c.lists_fault.ensures.verdict_value)

@@ -32,19 +32,19 @@ new-index-requires c =
     let w = c.in_ok-walked.ensures.walks in
     (omega arith, omega (arith, w.few, length-take-le c.in_ok-walked.walked.count c.before_lists.new.places (omega (arith, w.few))), w.within, refl)
 
-pub returns-in_err-sets : goal.returns-in_err-sets
-returns-in_err-sets c =
-    let p = err_from_is_err_and c.from_residual-in_err-sets.result c.from_residual-in_err-sets.ensures.1 in
+pub returns-in_err-lists_fault : goal.returns-in_err-lists_fault
+returns-in_err-lists_fault c =
     let w = c.in_ok-walked.ensures in
-    let f = c.in_err-sets.field-0.0 in
-    let e = verdict_listed _ _ _ _ (fault_verdict f) (omega arith) w.walks w.verdict_value (rw (c.new-index.ensures.0, c.new-index.ensures.1) at c.in_err-sets.ensures.verdict_value) in
+    let p = err_from_is_err_and c.from_residual-in_err-lists_fault.result c.from_residual-in_err-lists_fault.ensures.1 in
+    let f = c.in_err-lists_fault.field-0.0 in
+    let e = verdict_listed _ _ _ _ (fault_verdict f) (omega arith) w.walks w.verdict_value (rw (c.new-index.ensures.0, c.new-index.ensures.1) at c.in_err-lists_fault.ensures.verdict_value) in
     record { verdict_value = rw (p.1, p.2) e; profile_value = rw p.1 (refused_profile _ _ e (code_not_zero f.code)) }
 
 pub returns : goal.returns
 unfolding kept_of_pool
 returns c =
     let w = c.in_ok-walked.ensures in
-    let e = verdict_listed _ _ _ _ fine (omega arith) w.walks w.verdict_value (rw (c.new-index.ensures.0, c.new-index.ensures.1) at c.in_ok-sets.ensures.verdict_value) in
+    let e = verdict_listed _ _ _ _ fine (omega arith) w.walks w.verdict_value (rw (c.new-index.ensures.0, c.new-index.ensures.1) at c.in_ok-lists_fault.ensures.verdict_value) in
     record {
       verdict_value = e;
       profile_value = c.kept_at.ensures ∙ rw (c.new-index.ensures.0, c.new-index.ensures.1, w.walks.listed, w.walks.base) (kept_profile _ _ e refl);

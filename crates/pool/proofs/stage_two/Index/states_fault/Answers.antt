@@ -1,9 +1,9 @@
 -- `pool::stage_two::Index::states_fault` meets its contract. The loop's invariant: the answers and the sets are those of the functions from here on.
 use Prim.Native.Nat.{ℕ, ◌+◌, ◌-◌, ◌≤◌, ◌<◌}
 use native.Mathlib.Omega.{arith}
-use mathlib.Core.Path.{◌≡◌, refl, sym, ap, subst, ◌∙◌}
-use lib.ListN.{length, get_or, replicate, length-set}
-use Rattle.std.proofs.lemmas.Result.{err_from_is_err_and}
+use mathlib.Core.Path.{◌≡◌, sym, ap, subst, ◌∙◌}
+use lib.ListN.{length, get_or, length-set}
+use borrow.Author.Rules.{rules}
 use Rattle.pool.specs.Faults.{said}
 use Rattle.pool.specs.Fields.{function_type, numbers_at}
 use Rattle.pool.specs.StageTwo.{object_of, states_listed, states_absent, states_alike}
@@ -23,8 +23,8 @@ loop-k-init c =
     record {
       absent = sym (fault_end (states_absent s ps 0x04) l a.list.count past);
       alike = sym (fault_end (states_alike s ps 0x07) l a.list.count past);
-      sets = sets_none s ps l (replicate 255 0) a.list.count past;
-      long = refl;
+      sets = sets_none s ps l a.sets.now a.list.count past;
+      long = search rules;
     }
 
 pub loop-k-preserved : goal.loop-k-preserved
@@ -49,15 +49,14 @@ loop-k-preserved c =
       long = simp length-set i.invariant.long;
     }
 
-pub returns-in_err-and-clause-verdict_value : goal.returns-in_err-and-clause-verdict_value
-returns-in_err-and-clause-verdict_value c =
+pub returns : goal.returns
+returns c =
     let i = c.loop-k in
+    let a = c.args in
+    let s = a.self.now.pool.now in
+    let ps = a.self.now.places.now in
     let e : i.k ≡ 0 = omega arith in
-    let p = err_from_is_err_and c.from_residual.result c.from_residual.ensures.1 in
-    rw (p.1, p.2) (ap said (sym c.in_err-and.was) ∙ ap said c.and.ensures ∙ said_and i.absent i.alike ∙ rw (i.invariant.absent, i.invariant.alike, e))
-
-pub returns-clause-verdict_value : goal.returns-clause-verdict_value
-returns-clause-verdict_value c =
-    let i = c.loop-k in
-    let e : i.k ≡ 0 = omega arith in
-    ap said (sym c.in_ok-and.was) ∙ ap said c.and.ensures ∙ said_and i.absent i.alike ∙ rw (i.invariant.absent, i.invariant.alike, e)
+    record {
+      verdict_value = ap said c.and.ensures ∙ said_and i.absent i.alike ∙ rw (i.invariant.absent, i.invariant.alike, e);
+      sets = subst (λ (j : ℕ). Sets s ps (numbers_at 2 s a.list.at a.list.count) i.sets j) e i.invariant.sets;
+    }
