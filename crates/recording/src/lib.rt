@@ -2,12 +2,14 @@
 #![tactic(auto)]
 
 ghost use Rattle.std.specs.Prelude.{◌≡◌, ◌<◌, ◌&&◌, ltb, take};
+ghost use Rattle.std.specs.List.{position};
+ghost use Rattle.std.specs.Option.{IfSome};
 ghost use Rattle.octets.specs.Pick.{pick};
 ghost use Rattle.octets.specs.Bits.{has_bit};
 ghost use Rattle.arrays.specs.Arrays.{some};
 ghost use Rattle.client.specs.Records.{blank_record};
 ghost use Rattle.recording.specs.State.{blank_taken, blank_recording};
-ghost use Rattle.recording.specs.Indication.{counted_recording, is_open, has_open, is_step_of, place_of, is_same, takes, again_error, done_with, step_after, heard_again, error_by, first_value, new_step, records_after, with_new, heard_first, heard_of};
+ghost use Rattle.recording.specs.Indication.{held_of, counted_recording, is_open, has_open, is_step_of, is_same, takes, again_error, done_with, step_after, heard_again, error_by, first_value, new_step, records_after, with_new, heard_first, heard_of};
 ghost use Rattle.recording.specs.Promises.{Promises};
 ghost use Rattle.recording.specs.Kept.{stays, stayed, stored, HasSlots, records_from, kept_sequence};
 
@@ -82,45 +84,18 @@ pub fn blank_recording() -> Recording
     }
 }
 
-fn is_open(taken: Taken) -> bool
-    ensures { result ≡ is_open taken }
-{
-    taken.status == OPENED
-}
-
-fn some_open(steps: [Taken; MOST_STEPS], count: usize) -> bool
-    ensures { result ≡ some is_open (take count steps) }
-{
-    let end = at_most(count, MOST_STEPS);
-    let mut i: usize = 0;
-    while i < end {
-        if is_open(steps[i]) {
-            return true;
-        }
-        i += 1;
+impl Taken {
+    fn is_open(&self) -> bool
+        ensures { result ≡ is_open self.now }
+    {
+        self.status == OPENED
     }
-    false
-}
 
-fn is_step_of(taken: Taken, slot: u8, tan: u8) -> bool
-    ensures { result ≡ is_step_of slot tan taken }
-{
-    (taken.step.slot == slot) & (taken.tan == tan)
-}
-
-// The number of this client's step with this TAN, 64 where none is held.
-fn find(steps: [Taken; MOST_STEPS], count: usize, slot: u8, tan: u8) -> usize
-    ensures { result ≡ place_of steps count slot tan }
-{
-    let end = at_most(count, MOST_STEPS);
-    let mut i: usize = 0;
-    while i < end {
-        if is_step_of(steps[i], slot, tan) {
-            return i;
-        }
-        i += 1;
+    fn is_step_of(&self, slot: u8, tan: u8) -> bool
+        ensures { result ≡ is_step_of slot tan self.now }
+    {
+        (self.step.slot == slot) & (self.tan == tan)
     }
-    MOST_STEPS
 }
 
 fn is_same(taken: Taken, e: Execution) -> bool
@@ -183,7 +158,7 @@ fn step_after(taken: Taken, e: Execution) -> Taken
     let bits = e.status;
     let status = status_number(bits);
     let mut after = taken;
-    if !(is_same(taken, e) & is_open(taken)) {
+    if !(is_same(taken, e) & taken.is_open()) {
         return taken;
     }
     if status == 0b10 {
@@ -338,12 +313,29 @@ impl Recording {
         self
     }
 
-    // Some step is open.
-    pub fn has_open(self) -> bool
-        ensures { result ≡ has_open self }
+    // The steps that are held.
+    fn held(&self) -> &[Taken]
+        ensures { result.now ≡ held_of self.now }
     {
-        let steps = self.steps;
-        some_open(steps, self.count)
+        &self.steps[..at_most(self.count, MOST_STEPS)]
+    }
+
+    // Some step is open.
+    #[tactic(auto, unfolding(crate::specs::Indication::has_open))]
+    pub fn has_open(&self) -> bool
+        ensures { result ≡ has_open self.now }
+    {
+        self.held().iter().any(|taken| taken.is_open())
+    }
+
+    // The number of this client's step with this TAN.
+    fn find(&self, slot: u8, tan: u8) -> Option<usize>
+        ensures value { result ≡ position (is_step_of slot tan) (held_of self.now) }
+        ensures within { IfSome result (λ i. i < 64) }
+    {
+        self.held()
+            .iter()
+            .position(|taken| taken.is_step_of(slot, tan))
     }
 
     // A message of the step i, which is held.
@@ -431,12 +423,10 @@ impl Recording {
     pub fn heard(self, slot: u8, client: Client, complete: bool, e: Execution) -> Heard
         ensures { result ≡ heard_of self slot client complete e }
     {
-        let steps = self.steps;
-        let i = find(steps, self.count, slot, e.tan);
-        if i < MOST_STEPS {
-            return self.again(i, e);
+        match self.find(slot, e.tan) {
+            Some(i) => self.again(i, e),
+            None => self.first(slot, client, complete, e),
         }
-        self.first(slot, client, complete, e)
     }
 
     // The sequence after the end: the steps that stay, with their clients' records, in edition 1; the old one where none stays.
