@@ -1,25 +1,16 @@
--- `recording::Recording::heard` meets its contract: the number of a step that is held is below 64.
-use borrow.Author.Tests.{lt-ltb}
-use Rattle.octets.specs.Pick.{pick}
-use Rattle.recording.specs.Indication.{heard_of}
-use Rattle.recording.proofs.Places.{place_position}
+-- `recording::Recording::heard` meets its contract: a step that is found, or none.
+use mathlib.Core.Path.{sym, ◌∙◌}
+use Rattle.recording.proofs.Places.{found, not_found}
 use Rattle.recording.proofs.Recording.heard.Goals as goal
 
 pub returns-in-Some : goal.returns-in-Some
-unfolding pick heard_of
 returns-in-Some c =
-    rw (
-      place_position c.args.self c.args.slot c.args.e.tan,
-      ← c.find.ensures.value,
-      c.in-Some.is,
-      lt-ltb _ _ c.in-Some.ensures.within,
-    ) c.again.ensures
+    let a = c.args in
+    let e = found a.self.now a.slot a.client.now a.complete a.e _ (sym c.find.ensures.value ∙ c.in-Some.is) c.in-Some.ensures.within in
+    record { value = rw e c.again.ensures.value; after = rw e c.again.ensures.after }
 
 pub returns-in-None : goal.returns-in-None
-unfolding pick heard_of
 returns-in-None c =
-    rw (
-      place_position c.args.self c.args.slot c.args.e.tan,
-      ← c.find.ensures.value,
-      c.in-None.is,
-    ) c.first.ensures
+    let a = c.args in
+    let e = not_found a.self.now a.slot a.client.now a.complete a.e (sym c.find.ensures.value ∙ c.in-None.is) in
+    record { value = rw e c.first.ensures.value; after = rw e c.first.ensures.after }
