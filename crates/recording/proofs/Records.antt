@@ -6,7 +6,7 @@ use mathlib.Core.List.{List, [], ◌∷◌, ◌++◌, append_assoc, append-nil}
 use native.Mathlib.Numerals.{add-one}
 use native.Mathlib.Omega.{arith}
 use lib.ListN.{take, drop, length, get_or, set, length-set}
-use lib.Seq.{take-suc-set, drop-set-lt, drop-cons, drop-length, take-length, set-get_or, get_or-set_same, get_or-set_other}
+use lib.Seq.{take-suc-set, drop-set-lt, drop-cons, drop-length, take-length, get_or-set_same, get_or-set_other}
 use lib.Dec.{eqb, leb}
 use borrow.Author.Tests.{lt-leb, leb-true, leb-false}
 use Rattle.octets.specs.Pick.{pick}
@@ -50,11 +50,11 @@ module _ (l : List Step) where
   drops i records h n = one_more i records blank_record h ∙ ap (λ (c : ClientRecord). halfway l (i + 1) (set records i c)) (rw n)
 
   -- a client of which one does
-  pub stays_on : (i : ℕ) (records : List ClientRecord) → i < length records → some (is_of i) l ≡ true → halfway l i records ≡ halfway l (i + 1) records
+  pub stays_on :
+      (i : ℕ) (records : List ClientRecord) (d : ClientRecord) → i < length records → some (is_of i) l ≡ true
+      → halfway l i records ≡ halfway l (i + 1) (set records i (get_or records i d))
   unfolding pick record_kept
-  stays_on i records h n =
-      one_more i records blank_record h
-      ∙ ap (λ (c : ClientRecord). halfway l (i + 1) (set records i c)) (rw n) ∙ ap (halfway l (i + 1)) (set-get_or records i blank_record)
+  stays_on i records d h n = one_more i records d h ∙ ap (λ (c : ClientRecord). halfway l (i + 1) (set records i c)) (rw n)
 
 is_used_lem : (client : Client) → is_used (record_of client) ≡ true
 unfolding record_of

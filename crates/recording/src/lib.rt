@@ -1,12 +1,12 @@
 // Recording: the steps taken so far, what an E.4 does, and what stays at the end.
-#![tactic(auto)]
+// The definitions that the search of proofs opens.
+#![tactic(auto, unfolding(octets::specs::Pick::pick, crate::specs::State::blank_recording, crate::specs::Indication::counted_recording, crate::specs::Indication::has_open, crate::specs::Indication::again_error, crate::specs::Indication::step_after, crate::specs::Indication::heard_again, crate::specs::Indication::error_by, crate::specs::Indication::first_error, crate::specs::Indication::first_value, crate::specs::Indication::new_step, crate::specs::Indication::records_after, crate::specs::Indication::with_new, crate::specs::Indication::heard_first, crate::specs::Kept::record_kept, crate::specs::Kept::kept_sequence))]
 
-ghost use Rattle.std.specs.Prelude.{◌≡◌, ◌≤◌, ◌<◌, ◌&&◌, ltb, length, min};
+ghost use Rattle.std.specs.Prelude.{◌≡◌, ◌≤◌, ◌<◌, length, min};
 ghost use Rattle.std.specs.List.{position};
 ghost use Rattle.std.specs.Option.{unwrap_or, IfSome};
 ghost use Rattle.arrays.specs.Arrays.{some, pad_to};
 ghost use Rattle.message.specs.Fields.{status_number};
-ghost use Rattle.profile.specs.Profile.{trigger};
 ghost use Rattle.sequence.specs.Sequence.{blank_step};
 ghost use Rattle.sequence.specs.Sound.{is_of};
 ghost use Rattle.sequence.specs.declared.Sequence.{Sequence};
@@ -43,6 +43,20 @@ impl From<u8> for Held {
             1 => Held::Opened,
             2 => Held::Done,
             3..=255 => Held::Failed,
+        }
+    }
+}
+
+impl Held {
+    // Whether a step of this status takes a message of that one.
+    fn takes(self, status: Status) -> bool
+        ensures { result ≡ takes (held_number self) (status_number status) }
+    {
+        match self {
+            Held::OneShot => matches!(status, Status::AtOnce),
+            Held::Opened => !matches!(status, Status::AtOnce),
+            Held::Done => matches!(status, Status::Started | Status::Done),
+            Held::Failed => matches!(status, Status::Started | Status::Failed),
         }
     }
 }
@@ -95,7 +109,6 @@ pub struct Recording {
     pub records: [ClientRecord; SLOTS],
 }
 
-#[tactic(auto, unfolding(crate::specs::State::blank_recording))]
 pub fn blank_recording() -> Recording
     ensures { result ≡ blank_recording }
 {
@@ -110,18 +123,6 @@ pub fn blank_recording() -> Recording
         count: 0,
         steps: [taken; MOST_STEPS],
         records: [blank_record(); SLOTS],
-    }
-}
-
-// Whether a step of this status takes a message of that one.
-fn does_take(held: Held, status: Status) -> bool
-    ensures { result ≡ takes (held_number held) (status_number status) }
-{
-    match held {
-        Held::OneShot => matches!(status, Status::AtOnce),
-        Held::Opened => !matches!(status, Status::AtOnce),
-        Held::Done => matches!(status, Status::Started | Status::Done),
-        Held::Failed => matches!(status, Status::Started | Status::Failed),
     }
 }
 
@@ -151,14 +152,10 @@ impl Taken {
     }
 
     // The answer to a message of this step.
-    #[tactic(auto, unfolding(octets::specs::Pick::pick, crate::specs::Indication::again_error))]
     fn again_error(&self, e: Execution) -> Result<(), Error>
         ensures { answer_number result ≡ again_error self.now e }
     {
-        if !self.is_same(e) {
-            return Err(Error::WrongStatus);
-        }
-        if !does_take(Held::from(self.status), e.status) {
+        if !self.is_same(e) || !Held::from(self.status).takes(e.status) {
             return Err(Error::WrongStatus);
         }
         match e.status {
@@ -179,7 +176,6 @@ impl Taken {
     }
 
     // What a message of this step changes in it.
-    #[tactic(auto, unfolding(octets::specs::Pick::pick, crate::specs::Indication::step_after))]
     fn change(&mut self, e: Execution)
         ensures { self.new ≡ step_after self.old e }
     {
@@ -202,7 +198,6 @@ fn is_known(profile: &Profile, e: Execution) -> bool
 }
 
 // The value of a new step: that of the message where it says that the step is done.
-#[tactic(auto, unfolding(octets::specs::Pick::pick, crate::specs::Indication::first_value))]
 fn first_value(e: Execution) -> u32
     ensures { result ≡ first_value (status_number e.status) e.value }
 {
@@ -213,7 +208,6 @@ fn first_value(e: Execution) -> u32
 }
 
 // A client's record is stored with its first step.
-#[tactic(auto, unfolding(octets::specs::Pick::pick, crate::specs::Indication::records_after))]
 fn keep_record(records: &mut [ClientRecord; SLOTS], slot: u8, client: &Client)
     ensures { records.new ≡ records_after records.old slot client.now }
 {
@@ -231,13 +225,12 @@ fn has_step(steps: &[Step], slot: usize) -> bool
 }
 
 // The records of clients of which no step stays are dropped.
-#[tactic(auto, unfolding(octets::specs::Pick::pick, crate::specs::Kept::record_kept))]
 fn drop_records(records: &mut [ClientRecord; SLOTS], steps: &[Step])
     ensures { records.new ≡ records_from steps.now 0 records.old }
 {
-    for slot in 0..SLOTS {
+    for (slot, record) in records.iter_mut().enumerate() {
         if !has_step(steps, slot) {
-            records[slot] = blank_record();
+            *record = blank_record();
         }
     }
 }
@@ -261,7 +254,6 @@ fn kept_steps(taken: &[Taken]) -> Sequence
 
 impl Recording {
     // A tick and its millimetres are counted.
-    #[tactic(auto, unfolding(crate::specs::Indication::counted_recording))]
     pub fn counted(&mut self, mm: u32)
         ensures { self.new ≡ counted_recording self.old mm }
     {
@@ -277,7 +269,6 @@ impl Recording {
     }
 
     // Some step is open.
-    #[tactic(auto, unfolding(crate::specs::Indication::has_open))]
     pub fn has_open(&self) -> bool
         ensures { result ≡ has_open self.now }
     {
@@ -295,7 +286,6 @@ impl Recording {
     }
 
     // A message of the step i, which is held.
-    #[tactic(auto, unfolding(octets::specs::Pick::pick, crate::specs::Indication::heard_again))]
     fn again(&mut self, i: usize, e: Execution) -> Result<(), Error>
         requires { i < 64 }
         ensures value { answer_number result ≡ (heard_again self.old i e).error }
@@ -308,7 +298,6 @@ impl Recording {
     }
 
     // The answer to a message of a step that is not held.
-    #[tactic(auto, unfolding(octets::specs::Pick::pick, crate::specs::Indication::error_by, crate::specs::Indication::first_error))]
     fn first_error(&self, profile: &Profile, complete: bool, e: Execution) -> Result<(), Error>
         ensures { answer_number result ≡ first_error profile.now complete self.now.count e }
     {
@@ -331,7 +320,6 @@ impl Recording {
     }
 
     // A new step.
-    #[tactic(auto, unfolding(octets::specs::Pick::pick, crate::specs::Indication::new_step))]
     fn new_step(&self, trigger: u8, slot: u8, e: Execution) -> Taken
         ensures { result ≡ new_step self.now trigger slot e }
     {
@@ -356,7 +344,6 @@ impl Recording {
     }
 
     // A step is stored after the others, and its client's record with its first.
-    #[tactic(auto, unfolding(octets::specs::Pick::pick, crate::specs::Indication::with_new))]
     fn add(&mut self, taken: Taken, client: &Client)
         requires { self.old.count < 64 }
         ensures { self.new ≡ with_new self.old taken client.now }
@@ -367,7 +354,6 @@ impl Recording {
     }
 
     // A message of a step that is not held.
-    #[tactic(auto, unfolding(octets::specs::Pick::pick, crate::specs::Indication::heard_first))]
     fn first(
         &mut self,
         slot: u8,
@@ -386,7 +372,6 @@ impl Recording {
     }
 
     // An E.4 that counts; complete: the master is in record complete.
-    #[tactic(auto, unfolding(octets::specs::Pick::pick, crate::specs::Indication::heard_of))]
     pub fn heard(
         &mut self,
         slot: u8,
@@ -404,7 +389,6 @@ impl Recording {
     }
 
     // The sequence after the end: the steps that stay, with their clients' records, in edition 1. None: no step stays, and the old sequence does.
-    #[tactic(auto, unfolding(octets::specs::Pick::pick, crate::specs::Kept::kept_sequence))]
     pub fn kept(&self) -> Option<Sequence>
         ensures { (old : Sequence) → unwrap_or result old ≡ kept_sequence self.now old }
     {

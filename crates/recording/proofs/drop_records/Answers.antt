@@ -16,7 +16,7 @@ loop-slot-preserved c =
     elim c.if-not-has_step.branch [
       | then-not-has_step w ↦
           rw (w.records-is, w.blank_record.ensures) (record { long = length-set _ _ _ ∙ v.long; halfway = v.halfway ∙ drops _ _ _ (omega arith) (sym c.has_step.ensures ∙ w.if-not-has_step.true) })
-      | else-not-has_step w ↦ rw w.records-is (record { long = v.long; halfway = v.halfway ∙ stays_on _ _ _ (omega arith) (sym c.has_step.ensures ∙ w.if-not-has_step.false) })
+      | else-not-has_step w ↦ rw w.records-is (record { long = length-set _ _ _ ∙ v.long; halfway = v.halfway ∙ stays_on _ _ _ _ (omega arith) (sym c.has_step.ensures ∙ w.if-not-has_step.false) })
     ]
 
 pub returns : goal.returns
