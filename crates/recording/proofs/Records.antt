@@ -1,6 +1,6 @@
 -- A client's record is stored with its first step; a loop drops the records of clients of which no step stays, slot after slot.
 use Prim.Native.Nat.{ℕ, suc, ◌+◌, ◌≤◌, ◌<◌}
-use mathlib.Core.Path.{◌≡◌, refl, sym, ap, subst, ◌∙◌}
+use mathlib.Core.Path.{◌≡◌, refl, sym, ap, ◌∙◌}
 use mathlib.Core.Bool.{Bool, true, false, not, true≢false}
 use mathlib.Core.List.{List, [], ◌∷◌, ◌++◌, append_assoc, append-nil}
 use native.Mathlib.Numerals.{add-one}
@@ -11,7 +11,6 @@ use lib.Dec.{eqb, leb}
 use borrow.Author.Tests.{lt-leb, leb-true, leb-false}
 use Rattle.octets.specs.Pick.{pick}
 use Rattle.arrays.specs.Arrays.{some}
-use Rattle.arrays.proofs.Pad.{any_default}
 use Rattle.client.specs.Records.{is_used, blank_record, record_of}
 use Rattle.client.specs.declared.ClientRecord.{ClientRecord}
 use Rattle.client.specs.declared.Client.{Client}
@@ -60,23 +59,10 @@ is_used_lem : (client : Client) → is_used (record_of client) ≡ true
 unfolding record_of
 is_used_lem client = refl
 
-no_slot : (records : List ClientRecord) (slot : ℕ) (client : Client) → leb 8 slot ≡ true → records_after records slot client ≡ records
-unfolding pick records_after
-no_slot records slot client p = rw p
-
 pub slot_bound : (records : List ClientRecord) (slot : ℕ) (client : Client) → slot < 8
     → records_after records slot client ≡ pick (is_used (get_or records slot blank_record)) records (set records slot (record_of client))
 unfolding pick records_after
 slot_bound records slot client h = rw (lt-leb _ _ h)
-
-module _ (records : List ClientRecord) (slot : ℕ) (client : Client) (d : ClientRecord) (h : slot < 8) (e : length records ≡ 8) where
-  pub has_record : eqb (get_or records slot d).used 0 ≡ false → records_after records slot client ≡ records
-  unfolding pick records_after
-  has_record u = rw (lt-leb _ _ h, any_default records slot blank_record d (omega arith), u)
-
-  pub gets_record : eqb (get_or records slot d).used 0 ≡ true → records_after records slot client ≡ set records slot (record_of client)
-  unfolding pick records_after
-  gets_record u = rw (lt-leb _ _ h, any_default records slot blank_record d (omega arith), u)
 
 -- ---- the records after a step is stored
 
@@ -85,12 +71,14 @@ module _ (records : List ClientRecord) (slot : ℕ) (client : Client) (e : lengt
       (P : List ClientRecord → Type 0) → (8 ≤ slot → P records) → (slot < 8 → eqb (get_or records slot blank_record).used 0 ≡ false → P records)
       → (slot < 8 → eqb (get_or records slot blank_record).used 0 ≡ true → P (set records slot (record_of client)))
       → P (records_after records slot client)
+  unfolding pick records_after
   after_cases P f g h = go (leb 8 slot) refl (eqb (get_or records slot blank_record).used 0) refl
     where
-      go : (b : Bool) → leb 8 slot ≡ b → (c : Bool) → eqb (get_or records slot blank_record).used 0 ≡ c → P (records_after records slot client)
-      go true p c q = subst P (sym (no_slot records slot client p)) (f (leb-true _ _ p))
-      go false p false q = let k : slot < 8 = leb-false 8 slot p in subst P (sym (has_record records slot client blank_record k e q)) (g k q)
-      go false p true q = let k : slot < 8 = leb-false 8 slot p in subst P (sym (gets_record records slot client blank_record k e q)) (h k q)
+      go : (b : Bool) → leb 8 slot ≡ b → (c : Bool) → eqb (get_or records slot blank_record).used 0 ≡ c
+          → P (pick b records (pick (not c) records (set records slot (record_of client))))
+      go true p c q = f (leb-true _ _ p)
+      go false p false q = g (leb-false 8 slot p) q
+      go false p true q = h (leb-false 8 slot p) q
 
   pub after_length : length (records_after records slot client) ≡ 8
   after_length = after_cases (λ l. length l ≡ 8) (λ _. e) (λ _ _. e) (λ _ _. length-set records slot (record_of client) ∙ e)
