@@ -1,8 +1,8 @@
 pub mod Errors
 pub mod Stayed
 pub mod Records
-pub mod Cases
 pub mod Places
+pub mod Cases
 pub mod Steps
 pub mod Sound
 pub mod Hears

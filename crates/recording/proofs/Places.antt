@@ -1,39 +1,48 @@
--- The library's `position` finds the step that the definition finds.
-use Prim.Native.Nat.{ℕ, suc, ◌+◌, ◌<◌}
+-- Where a list has its first element that passes a test.
+use Prim.Native.Nat.{ℕ, suc, ◌+◌}
 use mathlib.Core.Path.{◌≡◌, refl, sym, ap, ◌∙◌}
-use mathlib.Core.Bool.{Bool, true, false, cond}
-use mathlib.Core.List.{List, [], ◌∷◌}
-use native.Mathlib.Numerals.{add-one}
-use Rattle.std.specs.Prelude.{Option, Some, None}
+use mathlib.Core.Bool.{Bool, true, false, cond, ◌||◌}
+use mathlib.Core.List.{List, [], ◌∷◌, ◌++◌, map}
+use native.Mathlib.Omega.{arith}
+use lib.ListN.{length}
+use Rattle.std.specs.Prelude.{Some, None}
 use Rattle.std.specs.List.{position, position_from}
-use Rattle.std.specs.Option.{unwrap_or}
+use Rattle.std.proofs.lemmas.Option.{none-some}
 use Rattle.std.proofs.lemmas.Iterator.Adapters.{position_from-zero}
-use Rattle.arrays.specs.Arrays.{first_from}
-use Rattle.recording.specs.Indication.{held_of, is_step_of, place_of, heard_again, heard_first, heard_of}
-use Rattle.message.specs.declared.Execution.{Execution}
-use Rattle.client.specs.declared.Client.{Client}
-use Rattle.recording.proofs.Cases.{goes_again, goes_first}
-use Rattle.recording.specs.declared.Recording.{Recording}
+use Rattle.arrays.specs.Arrays.{some}
+use Rattle.arrays.proofs.Every.{neither}
 
-module _ {X : Type 0} (none : ℕ) (p : X → Bool) where
-  first_position : (i : ℕ) (l : List X) → first_from none p i l ≡ unwrap_or (position_from p i l) none
-  first_position i [] = refl
-  first_position i (x ∷ l) = go (p x) (first_position (suc i) l)
+module _ {X : Type 0} (p : X → Bool) where
+  none_from : (i : ℕ) (l : List X) → position_from p i l ≡ None → some p l ≡ false
+  none_from i [] e = refl
+  none_from i (x ∷ l) e = go (p x) e (none_from (i + 1) l)
     where
-      go : (b : Bool) → first_from none p (suc i) l ≡ unwrap_or (position_from p (suc i) l) none
-          → cond b i (first_from none p (suc i) l) ≡ unwrap_or (cond b (Some i) (position_from p (i + 1) l)) none
-      go true h = refl
-      go false h = rw add-one h
+      go : (b : Bool) → cond b (Some i) (position_from p (i + 1) l) ≡ None → (position_from p (i + 1) l ≡ None → some p l ≡ false) → (b || some p l) ≡ false
+      go true e f = absurd (none-some i (sym e))
+      go false e f = f e
 
-module _ (r : Recording) (slot : ℕ) (client : Client) (complete : Bool) (e : Execution) where
-  place : (o : Option ℕ) → position (is_step_of slot e.tan) (held_of r) ≡ o → place_of r.steps r.count slot e.tan ≡ unwrap_or o 64
-  unfolding place_of
-  place o q =
-      first_position 64 (is_step_of slot e.tan) 0 (held_of r)
-      ∙ ap (λ (o : Option ℕ). unwrap_or o 64) (sym (position_from-zero (is_step_of slot e.tan) (held_of r)) ∙ q)
+  pub none_passes : (l : List X) → position p l ≡ None → some p l ≡ false
+  none_passes l e = none_from 0 l (sym (position_from-zero p l) ∙ e)
 
-  pub found : (i : ℕ) → position (is_step_of slot e.tan) (held_of r) ≡ Some i → i < 64 → heard_of r slot client complete e ≡ heard_again r i e
-  found i q h = goes_again r slot client complete e i (place (Some i) q) h
+  last_from : (i : ℕ) (l : List X) (x : X) → some p l ≡ false → p x ≡ true → position_from p i (l ++ x ∷ []) ≡ Some (i + length l)
+  last_from i [] x e q = let z : i ≡ i + 0 = omega arith in rw q (ap Some z)
+  last_from i (y ∷ l) x e q =
+      let n = neither (p y) (some p l) e in
+      let z : i + 1 + length l ≡ i + suc (length l) = omega arith in
+      rw n.0 (last_from (i + 1) l x n.1 q ∙ ap Some z)
 
-  pub not_found : position (is_step_of slot e.tan) (held_of r) ≡ None → heard_of r slot client complete e ≡ heard_first r slot client complete e
-  not_found q = goes_first r slot client complete e (place None q)
+  -- where no element of the list passes, the one after them is found
+  pub place_last : (l : List X) (x : X) → some p l ≡ false → p x ≡ true → position p (l ++ x ∷ []) ≡ Some (length l)
+  place_last l x e q = let z : 0 + length l ≡ length l = omega arith in position_from-zero p (l ++ x ∷ []) ∙ last_from 0 l x e q ∙ ap Some z
+
+module _ {X Y : Type 0} (f : X → Y) (p : Y → Bool) where
+  map_from : (i : ℕ) (l : List X) → position_from p i (map f l) ≡ position_from (λ x. p (f x)) i l
+  map_from i [] = refl
+  map_from i (x ∷ l) = ap (cond (p (f x)) (Some i)) (map_from (i + 1) l)
+
+  place_map : (l : List X) → position p (map f l) ≡ position (λ x. p (f x)) l
+  place_map l = position_from-zero p (map f l) ∙ map_from 0 l ∙ sym (position_from-zero (λ x. p (f x)) l)
+
+  -- in two lists that look alike
+  pub place_alike : (l m : List X) → map f l ≡ map f m → position (λ x. p (f x)) l ≡ position (λ x. p (f x)) m
+  place_alike l m e = sym (place_map l) ∙ ap (position p) e ∙ place_map m

@@ -1,9 +1,10 @@
 -- 01, "Recording": a tick, and what an E.4 that counts does.
-use Rattle.std.specs.Prelude.{ℕ, ◌+◌, Bool, not, ◌&&◌, ◌||◌, List, Result, Ok, Err, eqb, leb, ltb, take, get_or, set}
+use Rattle.std.specs.Prelude.{ℕ, ◌+◌, Bool, not, ◌&&◌, ◌||◌, List, Option, Some, None, Result, Ok, Err, eqb, leb, ltb, take, get_or, set}
+use Rattle.std.specs.List.{position}
 use Rattle.octets.specs.Pick.{pick}
 use Rattle.profile.specs.{Profile.trigger, Profile.has_state, declared.Profile.Profile}
 use Rattle.message.specs.{Fields.status_number, declared.Execution.Execution}
-use Rattle.arrays.specs.Arrays.{some, first_from, more}
+use Rattle.arrays.specs.Arrays.{some, more}
 use Rattle.client.specs.{Clients.slot_count, declared.Client.Client, declared.ClientRecord.ClientRecord}
 use Rattle.client.specs.Records.{is_used, blank_record, record_of}
 use Rattle.sequence.specs.Sequence.{most_steps}
@@ -77,9 +78,9 @@ has_open r = some is_open (held_of r)
 abbrev pub is_step_of : ℕ → ℕ → Taken → Bool
 is_step_of slot tan t = eqb t.step.slot slot && eqb t.tan tan
 
--- the number of that step, and 64 where none is held
-unfoldable pub place_of : List Taken → ℕ → ℕ → ℕ → ℕ
-place_of steps count slot tan = first_from most_steps (is_step_of slot tan) 0 (take count steps)
+-- the number of that step
+unfoldable pub place_of : Recording → ℕ → ℕ → Option ℕ
+place_of r slot tan = position (is_step_of slot tan) (held_of r)
 
 -- ---- "Found"
 
@@ -217,7 +218,9 @@ heard_first r slot client complete e =
 
 -- ---- the whole rule: found, or not found
 
+abbrev pub heard_by : Recording → ℕ → Client → Bool → Execution → Option ℕ → Heard
+heard_by r slot client complete e (Some i) = heard_again r i e
+heard_by r slot client complete e None = heard_first r slot client complete e
+
 unfoldable pub heard_of : Recording → ℕ → Client → Bool → Execution → Heard
-heard_of r slot client complete e =
-    let i = place_of r.steps r.count slot e.tan in
-    pick (ltb i most_steps) (heard_again r i e) (heard_first r slot client complete e)
+heard_of r slot client complete e = heard_by r slot client complete e (place_of r slot e.tan)

@@ -1,9 +1,8 @@
 // Recording: the steps taken so far, what an E.4 does, and what stays at the end.
 // The definitions that the search of proofs opens.
-#![tactic(auto, unfolding(octets::specs::Pick::pick, crate::specs::State::blank_recording, crate::specs::Indication::counted_recording, crate::specs::Indication::has_open, crate::specs::Indication::again_error, crate::specs::Indication::step_after, crate::specs::Indication::heard_again, crate::specs::Indication::error_by, crate::specs::Indication::first_error, crate::specs::Indication::first_value, crate::specs::Indication::new_step, crate::specs::Indication::records_after, crate::specs::Indication::with_new, crate::specs::Indication::heard_first, crate::specs::Kept::record_kept, crate::specs::Kept::kept_sequence))]
+#![tactic(auto, unfolding(octets::specs::Pick::pick, crate::specs::State::blank_recording, crate::specs::Indication::counted_recording, crate::specs::Indication::has_open, crate::specs::Indication::again_error, crate::specs::Indication::step_after, crate::specs::Indication::heard_again, crate::specs::Indication::error_by, crate::specs::Indication::first_error, crate::specs::Indication::first_value, crate::specs::Indication::new_step, crate::specs::Indication::records_after, crate::specs::Indication::with_new, crate::specs::Indication::heard_first, crate::specs::Indication::place_of, crate::specs::Indication::heard_of, crate::specs::Kept::record_kept, crate::specs::Kept::kept_sequence))]
 
 ghost use Rattle.std.specs.Prelude.{◌≡◌, ◌≤◌, ◌<◌, length, min};
-ghost use Rattle.std.specs.List.{position};
 ghost use Rattle.std.specs.Option.{unwrap_or, IfSome};
 ghost use Rattle.arrays.specs.Arrays.{some, pad_to};
 ghost use Rattle.message.specs.Fields.{status_number};
@@ -11,7 +10,7 @@ ghost use Rattle.sequence.specs.Sequence.{blank_step};
 ghost use Rattle.sequence.specs.Sound.{is_of};
 ghost use Rattle.sequence.specs.declared.Sequence.{Sequence};
 ghost use Rattle.recording.specs.State.{blank_recording};
-ghost use Rattle.recording.specs.Indication.{held_of, counted_recording, is_open, has_open, is_step_of, is_same, takes, held_number, error_number, answer_number, again_error, done_with, step_after, heard_again, is_known, first_error, first_value, new_step, records_after, with_new, heard_first, heard_of};
+ghost use Rattle.recording.specs.Indication.{held_of, counted_recording, is_open, has_open, is_step_of, place_of, is_same, takes, held_number, error_number, answer_number, again_error, done_with, step_after, heard_again, is_known, first_error, first_value, new_step, records_after, with_new, heard_first, heard_of};
 ghost use Rattle.recording.specs.Promises.{Promises};
 ghost use Rattle.recording.specs.Kept.{stays, stayed, records_from, kept_sequence};
 
@@ -277,7 +276,7 @@ impl Recording {
 
     // The number of this client's step with this TAN.
     fn find(&self, slot: u8, tan: u8) -> Option<usize>
-        ensures value { result ≡ position (is_step_of slot tan) (held_of self.now) }
+        ensures value { result ≡ place_of self.now slot tan }
         ensures within { IfSome result (λ i. i < 64) }
     {
         self.used()
