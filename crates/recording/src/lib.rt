@@ -4,6 +4,7 @@
 
 ghost use Rattle.std.specs.Prelude.{◌≡◌, ◌≤◌, ◌<◌, length, min};
 ghost use Rattle.std.specs.Option.{unwrap_or, IfSome};
+ghost use Rattle.std.specs.Result.{OnOk};
 ghost use Rattle.arrays.specs.Arrays.{some, pad_to};
 ghost use Rattle.message.specs.Fields.{status_number};
 ghost use Rattle.sequence.specs.Sequence.{blank_step};
@@ -88,7 +89,7 @@ pub fn number_of(answer: Result<(), Error>) -> u8
     }
 }
 
-// A step that is held, its TAN and its status.
+// A step that is held, its TAN and its status. It lies in memory that a C host lends, where any number may stand: so the status is one, read as `Held`.
 #[repr(C)]
 #[derive(Clone, Copy)]
 pub struct Taken {
@@ -97,7 +98,8 @@ pub struct Taken {
     pub status: u8,
 }
 
-// ticks and distance are counted since the start. The first count of steps are held; records stand by slot. Unused cells are blank.
+// ticks and distance are counted since the start. The first count of steps are held; records stand by slot. Unused cells are blank. In a C host's memory a
+// count stands beside its array: `used` is the slice.
 #[repr(C)]
 #[derive(Clone, Copy)]
 pub struct Recording {
@@ -298,7 +300,8 @@ impl Recording {
 
     // The answer to a message of a step that is not held.
     fn first_error(&self, profile: &Profile, complete: bool, e: Execution) -> Result<(), Error>
-        ensures { answer_number result ≡ first_error profile.now complete self.now.count e }
+        ensures value { answer_number result ≡ first_error profile.now complete self.now.count e }
+        ensures room { OnOk result (self.now.count < 64) }
     {
         if profile.trigger_of(e.function) == 0 {
             return Err(Error::UnknownFunction);
