@@ -20,7 +20,7 @@ use Rattle.recording.specs.Indication as recording
 use Rattle.sequence.specs.Sound.{SoundSequence}
 use Rattle.recording.specs.Promises.{Sound}
 use Rattle.recording.specs.declared.Recording.{Recording}
-use Rattle.recording.specs.declared.Heard.{Heard}
+use Rattle.recording.specs.Indication.{Heard}
 use Rattle.recording.proofs.Steps.{both}
 use Rattle.recording.proofs.Sound.{sound_blank, sound_counted, sound_heard}
 use Rattle.recording.proofs.Keeps as kept
@@ -45,6 +45,7 @@ use Rattle.events.proofs.Changes.{Replaces, loaded, in_edition}
 use Rattle.events.proofs.Invariant.{Invariant, always}
 use Rattle.events.proofs.Rest.{given_blank}
 use Rattle.events.proofs.Loads.{sound_loaded}
+use Rattle.recording.proofs.Cases.{by_place}
 
 pub record RegularRecording (r : Recording) : Type 0 where
   pub sound : Sound r
@@ -95,8 +96,8 @@ CountedIn x = Counted x.recording.ticks x.recording.distance
 
 module _ (r : Recording) (slot : ℕ) (client : Client) (complete : Bool) (e : Execution) (h : RegularRecording r) (l : slot < slot_count) where
   heard_counted : CountedIn (recording.heard_of r slot client complete e)
-  unfolding CountedIn recording.heard_of recording.heard_again recording.heard_first recording.with_new
-  heard_counted = chosen CountedIn _ _ _ h.counted (chosen CountedIn _ _ _ h.counted h.counted)
+  unfolding CountedIn recording.heard_again recording.heard_first recording.with_new
+  heard_counted = by_place r slot client complete e CountedIn (λ _. h.counted) (chosen CountedIn _ _ _ h.counted h.counted)
 
   heard_regular : RegularRecording (recording.heard_of r slot client complete e).recording
   unfolding CountedIn

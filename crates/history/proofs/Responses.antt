@@ -21,7 +21,7 @@ use Rattle.flat.specs.Flat.{flat_of, reading_of}
 use Rattle.client.specs.declared.Client.{Client}
 use Rattle.recording.specs.Indication.{again_error, heard_again, error_by, first_error, heard_first, heard_of}
 use Rattle.recording.specs.declared.Recording.{Recording}
-use Rattle.recording.specs.declared.Heard.{Heard}
+use Rattle.recording.specs.Indication.{Heard}
 use Rattle.master.specs.declared.Master.{Master}
 use Rattle.master.specs.Messages.{execution_in, response_out}
 use Rattle.master.specs.Recording.{indication_call}
@@ -37,6 +37,7 @@ use Rattle.history.specs.Log.{log_of}
 use Rattle.history.specs.Promises.{Answering}
 use Rattle.history.proofs.Next.{answer_is}
 use Rattle.history.proofs.Runs.{traces}
+use Rattle.recording.proofs.Cases.{by_place}
 
 -- ---- a state that is read is at most 63
 
@@ -65,11 +66,11 @@ few_states s = chosen (λ (r : Reading). leb (flat_of r.message r.label).step.st
 -- ---- an error that is given is one of E.5
 
 heard_known : (r : Recording) (slot : ℕ) (client : Client) (complete : Bool) (e : Execution) → known 6 (heard_of r slot client complete e).error ≡ true
-unfolding heard_of heard_again heard_first again_error first_error error_by
+unfolding heard_again heard_first again_error first_error error_by
 heard_known r slot client complete e =
     let K : ℕ → Type 0 = λ n. known 6 n ≡ true in
     let H : Heard → Type 0 = λ h. known 6 h.error ≡ true in
-    chosen H _ _ _ (chosen K _ _ _ refl (chosen K _ _ _ refl (chosen K _ _ _ refl refl)))
+    by_place r slot client complete e H (λ _. chosen K _ _ _ refl (chosen K _ _ _ refl (chosen K _ _ _ refl refl)))
     (chosen H _ _ _ refl (chosen K _ _ _ refl (chosen K _ _ _ refl (chosen K _ _ _ refl (chosen K _ _ _ refl (chosen K _ _ _ refl refl))))))
 
 -- ---- byte 4

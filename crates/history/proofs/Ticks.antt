@@ -14,7 +14,7 @@ use Rattle.client.specs.declared.Client.{Client}
 use Rattle.recording.specs.State.{blank_recording}
 use Rattle.recording.specs.Indication as indications
 use Rattle.recording.specs.declared.Recording.{Recording}
-use Rattle.recording.specs.declared.Heard.{Heard}
+use Rattle.recording.specs.Indication.{Heard}
 use Rattle.master.specs.declared.Master.{Master}
 use Rattle.master.specs.States as state
 use Rattle.master.specs.States.{new_master, is_recording, is_playing, with_recording, ended, settled}
@@ -32,6 +32,7 @@ use Rattle.history.specs.Ticks.{is_record, ticks_by, ticks_after, ticks_since, s
 use Rattle.history.specs.Promises.{Counting}
 use Rattle.history.proofs.Gather.{run_more, gather_more, along}
 use Rattle.history.proofs.States.{is_not, alike}
+use Rattle.recording.proofs.Cases.{by_place}
 
 -- ---- calls that are neither `record` nor a tick
 
@@ -45,8 +46,8 @@ Uncounts : Recording → Heard → Type 0
 Uncounts r h = (h.recording.ticks ≡ r.ticks) × (h.recording.distance ≡ r.distance)
 
 heard_uncounted : (r : Recording) (slot : ℕ) (client : Client) (complete : Bool) (e : Execution) → Uncounts r (indications.heard_of r slot client complete e)
-unfolding Uncounts indications.heard_of indications.heard_again indications.heard_first indications.with_new
-heard_uncounted r slot client complete e = chosen (Uncounts r) _ _ _ (refl, refl) (chosen (Uncounts r) _ _ _ (refl, refl) (refl, refl))
+unfolding Uncounts indications.heard_again indications.heard_first indications.with_new
+heard_uncounted r slot client complete e = by_place r slot client complete e (Uncounts r) (λ _. (refl, refl)) (chosen (Uncounts r) _ _ _ (refl, refl) (refl, refl))
 
 module _ (m : Master) where
   over : {X : Type 0} (k : Master) (s : ℕ) → (eqb s state.recording || eqb s state.record_complete) ≡ false → is_recording (ended k s) ≡ true → X

@@ -17,6 +17,7 @@ use message::fields::status_number;
 use message::{CLIENT, Execution};
 use octets::numbers::{DONE, NONE_ENABLED, NOT_EXPECTED, NOT_READY};
 use playback::has_function;
+use recording::number_of;
 
 impl Master {
     pub fn record(mut self) -> Outcome
@@ -39,18 +40,16 @@ impl Master {
     }
 
     // A recording that is stopped.
+    #[tactic(auto, unfolding(octets::specs::Pick::pick, crate::specs::Recording::stopped, crate::specs::Recording::recording_ended))]
     fn stopped(mut self) -> Master
         ensures { result ≡ stopped self }
     {
-        let recording = self.recording;
-        if recording.has_open() {
+        if self.recording.has_open() {
             self.state = RECORD_COMPLETE;
             return self;
         }
         // What stays of the recording is the sequence.
-        let sequence = self.sequence;
-        let kept = recording.kept(sequence);
-        self.sequence = kept;
+        self.sequence = self.recording.kept().unwrap_or(self.sequence);
         self.ended(READY)
     }
 
@@ -90,20 +89,16 @@ impl Master {
     }
 
     // An E.4 that counts; record complete ends where no step is open any more.
+    #[tactic(auto, unfolding(octets::specs::Pick::pick, crate::specs::Recording::recorded, crate::specs::Recording::recording_ended))]
     fn recorded(mut self, slot: u8, client: Client, e: Execution, out: &mut [u8]) -> Outcome
         ensures value { result ≡ gives 0 (recorded self (recording_heard self slot client e).recording) }
         ensures out_after { out.new ≡ response_out e (recording_heard self slot client e).error out.old }
     {
-        let recording = self.recording;
-        let answer = recording.heard(slot, client, self.state == RECORD_COMPLETE, e);
-        write_response(e, answer.error, out);
-        let after = answer.recording;
-        let over = (self.state == RECORD_COMPLETE) & !after.has_open();
-        self.recording = after;
-        if over {
-            let sequence = self.sequence;
-            let kept = after.kept(sequence);
-            self.sequence = kept;
+        let complete = self.state == RECORD_COMPLETE;
+        let answer = self.recording.heard(slot, &client, complete, e);
+        write_response(e, number_of(answer), out);
+        if complete & !self.recording.has_open() {
+            self.sequence = self.recording.kept().unwrap_or(self.sequence);
             return self.ended(READY).gives(DONE);
         }
         self.gives(DONE)

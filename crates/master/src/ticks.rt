@@ -10,15 +10,14 @@ use playback::{GOES_ON, blank_playback, frames};
 use sequence::LAST_TICK;
 
 impl Master {
+    #[tactic(auto, unfolding(octets::specs::Pick::pick, crate::specs::Tick::recording_ticked, crate::specs::States::ended))]
     fn recording_ticked(mut self, mm: u32) -> Master
         ensures { result ≡ recording_ticked self mm }
     {
-        let recording = self.recording;
-        let counted = recording.counted(mm);
-        if LAST_TICK <= counted.ticks {
+        self.recording.counted(mm);
+        if LAST_TICK <= self.recording.ticks {
             return self.ended(READY);
         }
-        self.recording = counted;
         self
     }
 

@@ -2,27 +2,28 @@
 use Prim.Native.Nat.{ℕ, ◌<◌}
 use mathlib.Core.Path.{◌≡◌, refl, sym, ap, subst, ◌∙◌}
 use mathlib.Core.Bool.{Bool, true, false}
-use mathlib.Core.Logic.{inl, inr}
 use mathlib.Core.List.{[], ◌∷◌, ◌++◌}
 use native.Mathlib.Numerals.{add-one}
 use native.Mathlib.Omega.{arith}
 use lib.Dec.{eqb}
 use lib.ListN.{length, get_or}
 use lib.Seq.{take-suc-set, length-take-le, get_or-take}
-use borrow.Author.Tests.{lt-ltb, eqb-true}
+use borrow.Author.Tests.{eqb-true}
 use Rattle.octets.specs.Pick.{pick}
 use Rattle.profile.specs.Profile.{trigger}
 use Rattle.message.specs.declared.Execution.{Execution}
-use Rattle.arrays.specs.Arrays.{some, first_from}
+use Rattle.std.specs.Prelude.{Option, Some, None}
+use Rattle.std.proofs.lemmas.List.Quantifiers.{position-Some}
+use Rattle.arrays.specs.Arrays.{some}
 use Rattle.arrays.proofs.Fill.{length_pad}
-use Rattle.arrays.proofs.Every.{Found, first_is}
 use Rattle.client.specs.declared.Client.{Client}
 use Rattle.recording.specs.State.{blank_taken}
-use Rattle.recording.specs.Indication.{held_of, step_at, is_step_of, place_of, heard_again, first_error, new_step, with_new, heard_first, heard_of}
+use Rattle.recording.specs.Indication.{held_of, step_at, is_step_of, place_of, heard_again, first_error, new_step, with_new, heard_first, heard_by, heard_of}
 use Rattle.recording.specs.Promises.{Sound}
 use Rattle.recording.specs.declared.Taken.{Taken}
 use Rattle.recording.specs.declared.Recording.{Recording}
-use Rattle.recording.specs.declared.Heard.{Heard}
+use Rattle.recording.specs.Indication.{Heard}
+use Rattle.recording.proofs.Places.{none_passes}
 
 module _ (r : Recording) (s : Sound r) where
   pub full : length r.steps ≡ 64
@@ -52,13 +53,22 @@ module _ (r : Recording) (slot : ℕ) (client : Client) (complete : Bool) (e : E
   abbrev pub begun : Heard
   begun = record { error = 0; recording = with_new r step client }
 
-  pub goes_again : (i : ℕ) → place_of r.steps r.count slot e.tan ≡ i → i < 64 → heard_of r slot client complete e ≡ heard_again r i e
-  unfolding pick heard_of
-  goes_again i p h = rw (p, lt-ltb _ _ h)
+  pub goes_again : (i : ℕ) → place_of r slot e.tan ≡ Some i → heard_of r slot client complete e ≡ heard_again r i e
+  unfolding heard_of
+  goes_again i p = rw p
 
-  pub goes_first : place_of r.steps r.count slot e.tan ≡ 64 → heard_of r slot client complete e ≡ heard_first r slot client complete e
-  unfolding pick heard_of
+  pub goes_first : place_of r slot e.tan ≡ None → heard_of r slot client complete e ≡ heard_first r slot client complete e
+  unfolding heard_of
   goes_first p = rw p
+
+  -- whichever step is found
+  pub by_place : (P : Heard → Type 0) → ((i : ℕ) → P (heard_again r i e)) → P (heard_first r slot client complete e) → P (heard_of r slot client complete e)
+  unfolding heard_of
+  by_place P f g = go (place_of r slot e.tan)
+    where
+      go : (o : Option ℕ) → P (heard_by r slot client complete e o)
+      go (Some i) = f i
+      go None = g
 
   pub goes_refused : eqb error 0 ≡ false → heard_first r slot client complete e ≡ refused
   unfolding pick heard_first
@@ -68,28 +78,27 @@ module _ (r : Recording) (slot : ℕ) (client : Client) (complete : Bool) (e : E
   unfolding pick heard_first
   goes_new q = rw q
 
-  place_is : (k : ℕ) → first_from 64 (is_step_of slot e.tan) 0 (held_of r) ≡ k → place_of r.steps r.count slot e.tan ≡ k
+  found : (i : ℕ) → place_of r slot e.tan ≡ Some i → (i < length (held_of r)) × (is_step_of slot e.tan (get_or (held_of r) i blank_taken) ≡ true)
   unfolding place_of
-  place_is k p = p
+  found i p = let m = position-Some (is_step_of slot e.tan) (held_of r) i blank_taken p in (m.0, m.1)
+
+  none_found : place_of r slot e.tan ≡ None → some (is_step_of slot e.tan) (held_of r) ≡ false
+  unfolding place_of
+  none_found p = none_passes (is_step_of slot e.tan) (held_of r) p
 
   pub by_cases :
       (P : Heard → Type 0) → Sound r
-      → ((i : ℕ) → i < r.count → place_of r.steps r.count slot e.tan ≡ i → is_step_of slot e.tan (step_at r i) ≡ true → P (heard_again r i e))
+      → ((i : ℕ) → i < r.count → place_of r slot e.tan ≡ Some i → is_step_of slot e.tan (step_at r i) ≡ true → P (heard_again r i e))
       → (some (is_step_of slot e.tan) (held_of r) ≡ false → eqb error 0 ≡ false → heard_of r slot client complete e ≡ refused → P refused)
       → (some (is_step_of slot e.tan) (held_of r) ≡ false → error ≡ 0 → P begun)
       → P (heard_of r slot client complete e)
-  by_cases P s f g h = go (first_is (is_step_of slot e.tan) 64 0 (held_of r) blank_taken)
+  by_cases P s f g h = go (place_of r slot e.tan) refl (eqb error 0) refl
     where
-      not_found : some (is_step_of slot e.tan) (held_of r) ≡ false → place_of r.steps r.count slot e.tan ≡ 64 → (b : Bool) → eqb error 0 ≡ b → P (heard_of r slot client complete e)
-      not_found n p true q = subst P (sym (goes_first p ∙ goes_new q)) (h n (eqb-true _ _ q))
-      not_found n p false q = let z = goes_first p ∙ goes_refused q in subst P (sym z) (g n q z)
-
-      go : Found (is_step_of slot e.tan) 64 0 (held_of r) blank_taken → P (heard_of r slot client complete e)
-      go (inl (p, n)) = not_found n (place_is 64 p) (eqb error 0) refl
-      go (inr (k, p, b, t)) =
+      go : (o : Option ℕ) → place_of r slot e.tan ≡ o → (b : Bool) → eqb error 0 ≡ b → P (heard_of r slot client complete e)
+      go None p true q = subst P (sym (goes_first p ∙ goes_new q)) (h (none_found p) (eqb-true _ _ q))
+      go None p false q = let z = goes_first p ∙ goes_refused q in subst P (sym z) (g (none_found p) q z)
+      go (Some i) p b q =
           let c = held_count r s in
-          let w = s.few in
-          let k1 : k < r.count = omega arith in
-          let k2 : k < 64 = omega arith in
-          let p2 : place_of r.steps r.count slot e.tan ≡ k = place_is k (p ∙ omega arith) in
-          subst P (sym (goes_again k p2 k2)) (f k k1 p2 (rw (← held_at r s k k1) t))
+          let m = found i p in
+          let k : i < r.count = omega (arith, m.0) in
+          subst P (sym (goes_again i p)) (f i k p (rw (← held_at r s i k) m.1))

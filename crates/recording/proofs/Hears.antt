@@ -11,8 +11,11 @@ use borrow.Author.Tests.{eqb-true, eqb-false, ltb-true, ltb-false}
 use Rattle.profile.specs.Profile.{trigger}
 use Rattle.message.specs.declared.Execution.{Execution}
 use Rattle.message.specs.declared.Status.TheVariants.{Done}
-use Rattle.arrays.specs.Arrays.{some, first_from}
-use Rattle.arrays.proofs.Every.{every_at, pairs_at, some_alike, first_alike, first_new, none_passes}
+use Rattle.arrays.specs.Arrays.{some}
+use Rattle.std.specs.Prelude.{Some}
+use Rattle.std.specs.List.{position}
+use Rattle.arrays.proofs.Every.{every_at, pairs_at, some_alike, none_passes}
+use Rattle.recording.proofs.Places.{place_alike, place_last}
 use Rattle.client.specs.Records.{blank_record, record_of}
 use Rattle.client.specs.declared.Client.{Client}
 use Rattle.recording.specs.State.{blank_taken}
@@ -20,7 +23,7 @@ use Rattle.recording.specs.Indication.{held_of, step_at, is_open, is_step_of, pl
 use Rattle.recording.specs.Promises.{Sound, Hears, Begun, is_taken_of, start_of}
 use Rattle.recording.specs.declared.Taken.{Taken}
 use Rattle.recording.specs.declared.Recording.{Recording}
-use Rattle.recording.specs.declared.Heard.{Heard}
+use Rattle.recording.specs.Indication.{Heard}
 use Rattle.recording.proofs.Errors.{early, room}
 use Rattle.recording.proofs.Records.{after_there, after_first}
 use Rattle.recording.proofs.Cases.{full, held_count, held_at, held_new, error, refused, step, begun, goes_again, by_cases}
@@ -96,10 +99,10 @@ module _ (r : Recording) (s : Sound r) (k : ℕ) (h : k < r.count) (e : Executio
   unmoved a b = rw (refused_same (step_at r k) e a b, set-get_or r.steps k blank_taken)
 
   -- again
-  module _ (slot : ℕ) (client : Client) (complete : Bool) (p : place_of r.steps r.count slot e.tan ≡ k) where
-    place_again : place_of (heard_again r k e).recording.steps (heard_again r k e).recording.count slot e.tan ≡ k
+  module _ (slot : ℕ) (client : Client) (complete : Bool) (p : place_of r slot e.tan ≡ Some k) where
+    place_again : place_of (heard_again r k e).recording slot e.tan ≡ Some k
     unfolding place_of
-    place_again = sym (first_alike start_of (held_of r) (held_of (heard_again r k e).recording) alike 64 (is_step_of slot e.tan) 0) ∙ p
+    place_again = sym (place_alike start_of (is_step_of slot e.tan) (held_of r) (held_of (heard_again r k e).recording) alike) ∙ p
 
     twice : heard_again (heard_again r k e).recording k e ≡ heard_again r k e
     unfolding heard_again
@@ -116,8 +119,7 @@ module _ (r : Recording) (s : Sound r) (k : ℕ) (h : k < r.count) (e : Executio
 
     again_found : heard_of (heard_again r k e).recording slot client complete e ≡ heard_again r k e
     again_found =
-        let w = s.few in
-        goes_again (heard_again r k e).recording slot client complete e k place_again (omega arith) ∙ twice
+        goes_again (heard_again r k e).recording slot client complete e k place_again ∙ twice
 
 -- ---- a new step
 
@@ -147,13 +149,12 @@ module _ (r : Recording) (s : Sound r) (slot : ℕ) (client : Client) (complete 
   unfolding with_new new_step
   new_first h q = after_first r.records slot client s.slots h (s.recorded slot h ∙ q)
 
-  place_new : place_of new.steps new.count slot e.tan ≡ r.count
+  place_new : place_of new slot e.tan ≡ Some r.count
   unfolding place_of
   place_new =
-      let c = held_count r s in
-      ap (first_from 64 (is_step_of slot e.tan) 0) held
-      ∙ first_new (is_step_of slot e.tan) 64 0 (held_of r) first n (new_is_found r (trigger client.profile e.function) slot e)
-      ∙ omega arith
+      ap (position (is_step_of slot e.tan)) held
+      ∙ place_last (is_step_of slot e.tan) (held_of r) first n (new_is_found r (trigger client.profile e.function) slot e)
+      ∙ ap Some (held_count r s)
 
   new_twice : heard_again new r.count e ≡ begun r slot client complete e
   unfolding heard_again with_new
@@ -171,7 +172,7 @@ module _ (r : Recording) (s : Sound r) (slot : ℕ) (client : Client) (complete 
       )
 
   again_new : heard_of new slot client complete e ≡ begun r slot client complete e
-  again_new = goes_again new slot client complete e r.count place_new space ∙ new_twice
+  again_new = goes_again new slot client complete e r.count place_new ∙ new_twice
 
 -- ---- a message
 
@@ -184,7 +185,7 @@ module _ (r : Recording) (slot : ℕ) (client : Client) (complete : Bool) (e : E
 
   ways :
       (P : Heard → Type 0)
-      → ((i : ℕ) → i < r.count → place_of r.steps r.count slot e.tan ≡ i → is_it (step_at r i) ≡ true → P (heard_again r i e))
+      → ((i : ℕ) → i < r.count → place_of r slot e.tan ≡ Some i → is_it (step_at r i) ≡ true → P (heard_again r i e))
       → (some is_it (held_of r) ≡ false → eqb (error r slot client complete e) 0 ≡ false → h ≡ refused r slot client complete e → P (refused r slot client complete e))
       → (some is_it (held_of r) ≡ false → error r slot client complete e ≡ 0 → P (begun r slot client complete e))
       → P h

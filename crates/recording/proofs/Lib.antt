@@ -1,6 +1,7 @@
 pub mod Errors
 pub mod Stayed
 pub mod Records
+pub mod Places
 pub mod Cases
 pub mod Steps
 pub mod Sound

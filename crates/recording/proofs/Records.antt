@@ -1,27 +1,23 @@
 -- A client's record is stored with its first step; a loop drops the records of clients of which no step stays, slot after slot.
 use Prim.Native.Nat.{ℕ, suc, ◌+◌, ◌≤◌, ◌<◌}
-use mathlib.Core.Path.{◌≡◌, refl, sym, ap, subst, ◌∙◌}
-use mathlib.Core.Bool.{Bool, true, false, not, ◌||◌, true≢false, or-false, or_comm}
+use mathlib.Core.Path.{◌≡◌, refl, sym, ap, ◌∙◌}
+use mathlib.Core.Bool.{Bool, true, false, not, true≢false}
 use mathlib.Core.List.{List, [], ◌∷◌, ◌++◌, append_assoc, append-nil}
 use native.Mathlib.Numerals.{add-one}
 use native.Mathlib.Omega.{arith}
 use lib.ListN.{take, drop, length, get_or, set, length-set}
-use lib.Seq.{take-suc, take-suc-set, drop-set-lt, drop-cons, drop-length, take-length, get_or-set_same, get_or-set_other}
+use lib.Seq.{take-suc-set, drop-set-lt, drop-cons, drop-length, take-length, get_or-set_same, get_or-set_other}
 use lib.Dec.{eqb, leb}
-use borrow.Author.Tests.{lt-leb, leb-true, leb-false, ne_eqb}
+use borrow.Author.Tests.{lt-leb, leb-true, leb-false}
 use Rattle.octets.specs.Pick.{pick}
-use Rattle.octets.specs.Bits.{with_bit}
-use Rattle.octets.proofs.BitLaws.{has_with, has_none}
 use Rattle.arrays.specs.Arrays.{some}
-use Rattle.arrays.proofs.Every.{some_more}
-use Rattle.arrays.proofs.Pad.{any_default}
 use Rattle.client.specs.Records.{is_used, blank_record, record_of}
 use Rattle.client.specs.declared.ClientRecord.{ClientRecord}
 use Rattle.client.specs.declared.Client.{Client}
 use Rattle.sequence.specs.declared.Step.{Step}
 use Rattle.recording.specs.Indication.{records_after}
 use Rattle.sequence.specs.Sound.{is_of}
-use Rattle.recording.specs.Kept.{HasSlots, record_kept, records_from}
+use Rattle.recording.specs.Kept.{record_kept, records_from}
 
 -- the records when those before slot i are done
 pub halfway : List Step → ℕ → List ClientRecord → List ClientRecord
@@ -45,42 +41,28 @@ module _ (l : List Step) where
       rw (add-one, drop-cons records i d h, take-suc-set records i c h, drop-set-lt (suc i) records i c (omega arith))
       (sym (append_assoc (take i records) (c ∷ []) _))
 
--- ---- the slots of the steps, as bits
+  -- a client of which no step stays
+  pub drops :
+      (i : ℕ) (records : List ClientRecord) → i < length records → some (is_of i) l ≡ false
+      → halfway l i records ≡ halfway l (i + 1) (set records i blank_record)
+  unfolding pick record_kept
+  drops i records h n = one_more i records blank_record h ∙ ap (λ (c : ClientRecord). halfway l (i + 1) (set records i c)) (rw n)
 
-pub no_slots : HasSlots 0 []
-no_slots slot h = has_none slot
-
-module _ (steps : List Step) (d : Step) (bits i : ℕ) (has : HasSlots bits (take i steps)) (k : i < length steps) where
-  more_steps : (slot : ℕ) → some (is_of slot) (take (i + 1) steps) ≡ (some (is_of slot) (take i steps) || is_of slot (get_or steps i d))
-  more_steps slot = rw (add-one, take-suc steps i d k) (some_more (is_of slot) (take i steps) (get_or steps i d))
-
-  pub one_slot : HasSlots (with_bit bits (get_or steps i d).slot) (take (i + 1) steps)
-  one_slot slot h = has_with bits (get_or steps i d).slot slot ∙ rw (has slot h, more_steps slot) (or_comm (is_of slot (get_or steps i d)) (some (is_of slot) (take i steps)))
-
-  pub no_such_slot : 64 ≤ (get_or steps i d).slot → HasSlots bits (take (i + 1) steps)
-  no_such_slot l slot h = has slot h ∙ sym (more_steps slot ∙ rw (ne_eqb (get_or steps i d).slot slot (λ e. omega arith)) (or-false _))
+  -- a client of which one does
+  pub stays_on :
+      (i : ℕ) (records : List ClientRecord) (d : ClientRecord) → i < length records → some (is_of i) l ≡ true
+      → halfway l i records ≡ halfway l (i + 1) (set records i (get_or records i d))
+  unfolding pick record_kept
+  stays_on i records d h n = one_more i records d h ∙ ap (λ (c : ClientRecord). halfway l (i + 1) (set records i c)) (rw n)
 
 is_used_lem : (client : Client) → is_used (record_of client) ≡ true
 unfolding record_of
 is_used_lem client = refl
 
-no_slot : (records : List ClientRecord) (slot : ℕ) (client : Client) → leb 8 slot ≡ true → records_after records slot client ≡ records
-unfolding pick records_after
-no_slot records slot client p = rw p
-
 pub slot_bound : (records : List ClientRecord) (slot : ℕ) (client : Client) → slot < 8
     → records_after records slot client ≡ pick (is_used (get_or records slot blank_record)) records (set records slot (record_of client))
 unfolding pick records_after
 slot_bound records slot client h = rw (lt-leb _ _ h)
-
-module _ (records : List ClientRecord) (slot : ℕ) (client : Client) (d : ClientRecord) (h : slot < 8) (e : length records ≡ 8) where
-  pub has_record : eqb (get_or records slot d).used 0 ≡ false → records_after records slot client ≡ records
-  unfolding pick records_after
-  has_record u = rw (lt-leb _ _ h, any_default records slot blank_record d (omega arith), u)
-
-  pub gets_record : eqb (get_or records slot d).used 0 ≡ true → records_after records slot client ≡ set records slot (record_of client)
-  unfolding pick records_after
-  gets_record u = rw (lt-leb _ _ h, any_default records slot blank_record d (omega arith), u)
 
 -- ---- the records after a step is stored
 
@@ -89,12 +71,14 @@ module _ (records : List ClientRecord) (slot : ℕ) (client : Client) (e : lengt
       (P : List ClientRecord → Type 0) → (8 ≤ slot → P records) → (slot < 8 → eqb (get_or records slot blank_record).used 0 ≡ false → P records)
       → (slot < 8 → eqb (get_or records slot blank_record).used 0 ≡ true → P (set records slot (record_of client)))
       → P (records_after records slot client)
+  unfolding pick records_after
   after_cases P f g h = go (leb 8 slot) refl (eqb (get_or records slot blank_record).used 0) refl
     where
-      go : (b : Bool) → leb 8 slot ≡ b → (c : Bool) → eqb (get_or records slot blank_record).used 0 ≡ c → P (records_after records slot client)
-      go true p c q = subst P (sym (no_slot records slot client p)) (f (leb-true _ _ p))
-      go false p false q = let k : slot < 8 = leb-false 8 slot p in subst P (sym (has_record records slot client blank_record k e q)) (g k q)
-      go false p true q = let k : slot < 8 = leb-false 8 slot p in subst P (sym (gets_record records slot client blank_record k e q)) (h k q)
+      go : (b : Bool) → leb 8 slot ≡ b → (c : Bool) → eqb (get_or records slot blank_record).used 0 ≡ c
+          → P (pick b records (pick (not c) records (set records slot (record_of client))))
+      go true p c q = f (leb-true _ _ p)
+      go false p false q = g (leb-false 8 slot p) q
+      go false p true q = h (leb-false 8 slot p) q
 
   pub after_length : length (records_after records slot client) ≡ 8
   after_length = after_cases (λ l. length l ≡ 8) (λ _. e) (λ _ _. e) (λ _ _. length-set records slot (record_of client) ∙ e)

@@ -1,13 +1,16 @@
 -- 01, "Recording": a tick, and what an E.4 that counts does.
-use Rattle.std.specs.Prelude.{ℕ, ◌+◌, Bool, not, ◌&&◌, ◌||◌, List, eqb, leb, ltb, take, get_or, set}
+use Rattle.std.specs.Prelude.{ℕ, ◌+◌, Bool, not, ◌&&◌, ◌||◌, List, Option, Some, None, Result, Ok, Err, eqb, leb, ltb, take, get_or, set}
+use Rattle.std.specs.List.{position}
 use Rattle.octets.specs.Pick.{pick}
 use Rattle.profile.specs.{Profile.trigger, Profile.has_state, declared.Profile.Profile}
 use Rattle.message.specs.{Fields.status_number, declared.Execution.Execution}
-use Rattle.arrays.specs.Arrays.{some, first_from, more}
+use Rattle.arrays.specs.Arrays.{some, more}
 use Rattle.client.specs.{Clients.slot_count, declared.Client.Client, declared.ClientRecord.ClientRecord}
 use Rattle.client.specs.Records.{is_used, blank_record, record_of}
 use Rattle.sequence.specs.Sequence.{most_steps}
-use Rattle.recording.specs.{State.blank_taken, declared.Taken.Taken, declared.Recording.Recording, declared.Heard.Heard}
+use Rattle.recording.specs.{State.blank_taken, declared.Taken.Taken, declared.Recording.Recording, declared.Held.Held, declared.Error.Error}
+use Rattle.recording.specs.declared.Held.TheVariants.{OneShot, Opened, Done, Failed}
+use Rattle.recording.specs.declared.Error.TheVariants.{UnknownFunction, UnknownState, WrongStatus, Full, Other}
 
 -- the status of a step that is held; a number that is not here is failed
 abbrev pub one_shot : ℕ
@@ -21,6 +24,30 @@ done = 2
 
 abbrev pub failed : ℕ
 failed = 3
+
+abbrev pub held_number : Held → ℕ
+held_number OneShot = one_shot
+held_number Opened = opened
+held_number Done = done
+held_number Failed = failed
+
+-- the errors of E.5
+abbrev pub error_number : Error → ℕ
+error_number UnknownFunction = 0x01
+error_number UnknownState = 0x02
+error_number WrongStatus = 0x03
+error_number Full = 0x04
+error_number Other = 0xFF
+
+-- and 00 where there is none
+abbrev pub answer_number : {T : Type 0} → Result T Error → ℕ
+answer_number (Ok _) = 0x00
+answer_number (Err why) = error_number why
+
+-- the error of E.5, and the recording after the message
+pub record Heard : Type 0 where
+  pub error : ℕ
+  pub recording : Recording
 
 -- the status of an E.4, as its two bits
 abbrev pub status : Execution → ℕ
@@ -51,9 +78,9 @@ has_open r = some is_open (held_of r)
 abbrev pub is_step_of : ℕ → ℕ → Taken → Bool
 is_step_of slot tan t = eqb t.step.slot slot && eqb t.tan tan
 
--- the number of that step, and 64 where none is held
-unfoldable pub place_of : List Taken → ℕ → ℕ → ℕ → ℕ
-place_of steps count slot tan = first_from most_steps (is_step_of slot tan) 0 (take count steps)
+-- the number of that step
+unfoldable pub place_of : Recording → ℕ → ℕ → Option ℕ
+place_of r slot tan = position (is_step_of slot tan) (held_of r)
 
 -- ---- "Found"
 
@@ -191,7 +218,9 @@ heard_first r slot client complete e =
 
 -- ---- the whole rule: found, or not found
 
+abbrev pub heard_by : Recording → ℕ → Client → Bool → Execution → Option ℕ → Heard
+heard_by r slot client complete e (Some i) = heard_again r i e
+heard_by r slot client complete e None = heard_first r slot client complete e
+
 unfoldable pub heard_of : Recording → ℕ → Client → Bool → Execution → Heard
-heard_of r slot client complete e =
-    let i = place_of r.steps r.count slot e.tan in
-    pick (ltb i most_steps) (heard_again r i e) (heard_first r slot client complete e)
+heard_of r slot client complete e = heard_by r slot client complete e (place_of r slot e.tan)

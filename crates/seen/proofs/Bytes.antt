@@ -22,7 +22,7 @@ use Rattle.sequence.specs.declared.Step.{Step}
 use Rattle.sequence.specs.declared.Sequence.{Sequence}
 use Rattle.recording.specs.Indication.{again_error, error_by, first_error, heard_again, heard_first, heard_of}
 use Rattle.recording.specs.declared.Taken.{Taken}
-use Rattle.recording.specs.declared.Heard.{Heard}
+use Rattle.recording.specs.Indication.{Heard}
 use Rattle.recording.proofs.Steps.{both}
 use Rattle.playback.specs.Answer.{is_function_of, has_function}
 use Rattle.master.specs.declared.Master.{Master}
@@ -41,6 +41,7 @@ use Rattle.seen.specs.Words.{nth, Bytes, Done}
 use Rattle.seen.specs.Written.{IsStep, Orders, Acknowledges, Responds, Responses, Stores, LentNothing, Written}
 use Rattle.seen.proofs.Tests.{is_indication_lem, passed_by, some_at, none_at}
 use Rattle.seen.proofs.Reading.{indication_is, answer_is, packed_again, byte_below}
+use Rattle.recording.proofs.Cases.{by_place}
 
 -- a message that is allowed is laid over the lent bytes
 laid_over : (f : Form) (out : List ℕ) → ltb (length out) f.length ≡ false → f.allowed ≡ true → left_as f blank [] out ≡ laid f blank [] ++ drop f.length out
@@ -84,12 +85,12 @@ first_allowed p complete count x =
     chosen Allowed _ _ _ refl (chosen Allowed _ _ _ refl (chosen Allowed _ _ _ refl (chosen Allowed _ _ _ refl (chosen Allowed _ _ _ refl refl))))
 
 error_allowed : (m : Master) (slot : ℕ) (s : Client) (x : Execution) → Allowed (heard m slot s x).error
-unfolding heard interrupted heard_of heard_again heard_first
+unfolding heard interrupted heard_again heard_first
 error_allowed m slot s x =
     let A : Hearing → Type 0 = λ h. Allowed h.error in
     let B : Heard → Type 0 = λ h. Allowed h.error in
     chosen A _ _ _ (chosen A _ _ _ refl refl)
-    (chosen B _ _ _ (again_allowed _ x) (chosen B _ _ _ refl (first_allowed s.profile _ m.recording.count x)))
+    (by_place m.recording slot s _ x B (λ _. again_allowed _ x) (chosen B _ _ _ refl (first_allowed s.profile _ m.recording.count x)))
 
 response : (msg out : List ℕ) (error : ℕ) → is_indication msg ≡ true → Bytes msg → ltb (length out) 8 ≡ false → Allowed error
     → response_out (execution_in msg) error out ≡ 0x32 ∷ nth 2 msg ∷ nth 3 msg ∷ error ∷ nth 4 msg ∷ 0xFF ∷ 0xFF ∷ 0xFF ∷ drop 8 out
