@@ -85,5 +85,5 @@ module _ (s : List ℕ) (p : ℕ) where
   step_at_in =
       rw (byte_in 0 p zero_in, byte_in 1 (p + 1) refl, byte_in 2 (p + 2) refl, byte_in 3 (p + 3) refl, number_in 4 8 (p + 8) refl, number_in 4 4 (p + 4) refl)
 
-  pub step_blank_in : is_blank (drop p s) 12 16 ≡ step_blank s p
+  pub step_blank_in : step_blank (drop p s) 0 ≡ step_blank s p
   step_blank_in = blank_in 12 16 (p + 12) (p + 16) refl refl

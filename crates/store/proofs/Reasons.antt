@@ -7,7 +7,7 @@ use mathlib.Core.List.{List, [], ◌∷◌, map}
 use lib.Dec.{eqb, ltb}
 use lib.ListN.{length, get_or, take}
 use borrow.Author.Tests.{eq-eqb, eqb-true}
-use Rattle.std.proofs.Common.{Option, None, Some, Err}
+use Rattle.std.proofs.Common.{None, Some, Err}
 use Rattle.std.specs.Option.{ok_or}
 use Rattle.std.specs.Bool.{then_some}
 use Rattle.octets.specs.Pick.{pick}
@@ -29,7 +29,7 @@ use Rattle.store.specs.Fields.{step_right}
 use Rattle.store.specs.Loaded.{client_right, client_blank, step_at, step_blank, client_slot, step_slot, client_count, step_count, edition_in, records_to, steps_to}
 use Rattle.store.specs.Loaded.{counts_right, rest_blank, are_clients_right, are_steps_right, is_fill_blank, is_no_slot_twice, has_each_record, has_each_step}
 use Rattle.store.specs.Loaded.{is_faulty, sequence_in, load_number, loaded_by, loaded_of}
-use Rattle.store.specs.Taken.{client_taken, step_taken}
+use Rattle.store.specs.Taken.{client_taken, step_taken, records_read, steps_read}
 use Rattle.store.proofs.Below.{every_both, every_same}
 use Rattle.store.proofs.Fields.{counts, edition_known, client_parts, client_fit, step_parts, slot_at, step_fit}
 use Rattle.store.proofs.Steps.{steps_length, step_of}
@@ -186,10 +186,14 @@ refused s e = rw e
 
 -- ---- of blocks as many as their counts say and of a known edition, what the loops found
 
+-- as the edition stands in the first block
+abbrev pub less_in : List ℕ → ℕ
+less_in s = number_at 4 s 8
+
 pub record Head (s : List ℕ) (c n less : ℕ) : Type 0 where
   pub clients : c ≡ client_count s
   pub steps : n ≡ step_count s
-  pub read : less ≡ number_at 4 s 8
+  pub read : less ≡ less_in s
   pub right : counts_right c n ≡ true
   pub whole : length s ≡ 512 * blocks_for c n
   pub known : is_edition (edition_in s) ≡ true
@@ -199,9 +203,9 @@ module _ (s : List ℕ) {c n : ℕ} (clients : c ≡ client_count s) (steps : n 
   pub counts_wrong : counts_right c n ≡ false → is_faulty s ≡ true
   counts_wrong e = head_wrong s c n clients steps (rw e)
 
-  module _ (right : counts_right c n ≡ true) {less m : ℕ} (read : less ≡ number_at 4 s 8) (all : m ≡ blocks_for c n) where
+  module _ (right : counts_right c n ≡ true) {less m : ℕ} (read : less ≡ less_in s) (all : m ≡ blocks_for c n) where
     tested : (eqb (length s) (512 * m) && ltb less 2) ≡ (eqb (length s) (512 * blocks_for c n) && is_edition (edition_in s))
-    tested = rw (all, read, edition_known (number_at 4 s 8))
+    tested = rw (all, read, edition_known (less_in s))
 
     pub shape_wrong : (eqb (length s) (512 * m) && ltb less 2) ≡ false → is_faulty s ≡ true
     shape_wrong e = head_wrong s c n clients steps (rw right (sym tested ∙ e))
@@ -210,12 +214,6 @@ module _ (s : List ℕ) {c n : ℕ} (clients : c ≡ client_count s) (steps : n 
     head_right e =
         let parts = both (eqb (length s) (512 * blocks_for c n)) (is_edition (edition_in s)) (sym tested ∙ e) in
         record { clients = clients; steps = steps; read = read; right = right; whole = eqb-true _ _ parts.0; known = parts.1 }
-
-abbrev pub records_read : List ℕ → ℕ → Option (List ClientRecord)
-records_read s c = then_some (clients_taken s c) (records_to s c)
-
-abbrev pub steps_read : List ℕ → ℕ → ℕ → List ClientRecord → Option (List Step)
-steps_read s c n records = then_some (steps_taken s c n records) (pad_to blank_step 64 (steps_to s c n))
 
 module _ {s : List ℕ} {c n less : ℕ} (w : Head s c n less) where
   nothing_wrong : Bool

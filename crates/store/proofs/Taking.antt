@@ -17,7 +17,7 @@ use Rattle.sequence.specs.Sequence.{blank_step}
 use Rattle.sequence.specs.declared.Step.{Step}
 use Rattle.store.specs.Blocks.{client_place, step_place}
 use Rattle.store.specs.Fields.{step_right}
-use Rattle.store.specs.Loaded.{is_blank, client_at, client_right, client_blank, step_at, client_slot, step_slot, records_to, steps_to}
+use Rattle.store.specs.Loaded.{client_at, client_right, client_blank, step_at, step_blank, client_slot, step_slot, records_to, steps_to}
 use Rattle.store.specs.Taken.{client_taken, step_taken}
 use Rattle.store.proofs.Parts.{client_right_in, client_blank_in, client_at_in, step_at_in, step_blank_in}
 use Rattle.store.proofs.Fields.{client_parts, client_fit, step_parts, slot_at, step_fit}
@@ -73,7 +73,7 @@ pub record ReadStep (s : List ℕ) (c k : ℕ) (bytes : List ℕ) (x : Step) (r 
   pub at : bytes ≡ drop (step_place c k) s
   pub read : x ≡ step_at bytes 0
   pub right : r ≡ step_right x
-  pub blank : b ≡ is_blank bytes 12 16
+  pub blank : b ≡ step_blank bytes 0
 
 module _ {s : List ℕ} {c k : ℕ} {bytes : List ℕ} {x : Step} {r b : Bool} (i : ReadStep s c k bytes x r b) where
   step_is : x ≡ step_at s (step_place c k)

@@ -9,7 +9,7 @@ ghost use Rattle.store.specs.Below.{every_below};
 ghost use Rattle.store.specs.Blocks.{block_at, is_intact, is_damaged, blocks_for, client_place, step_place};
 ghost use Rattle.store.specs.Fields.{most_mark, step_right};
 ghost use Rattle.store.specs.Loaded.{byte_at, is_blank, client_at, client_right, client_blank, step_at, step_blank, records_to, steps_to, rest_blank, client_slot, is_faulty, sequence_in, loaded_by, loaded_of};
-ghost use Rattle.store.specs.Taken.{client_taken, step_taken};
+ghost use Rattle.store.specs.Taken.{records_read, steps_read};
 
 use crate::{BLOCK_BYTES, CONTENT_BYTES, Counts, check_of};
 use client::{ClientRecord, SLOTS, blank_record};
@@ -172,7 +172,7 @@ impl<'a> Blocks<'a> {
 
     // The client records, each in its slot: none where one has a field out of range, fill that is not zero, or the slot of one before it.
     fn records(&self) -> Option<[ClientRecord; SLOTS]>
-        ensures { result ≡ then_some (every_below self.now.counts.clients (client_taken self.now.bytes.now)) (records_to self.now.bytes.now self.now.counts.clients) }
+        ensures { result ≡ records_read self.now.bytes.now self.now.counts.clients }
     {
         let mut records = [blank_record(); SLOTS];
         for k in 0..self.counts.clients {
@@ -191,7 +191,7 @@ impl<'a> Blocks<'a> {
 
     // The steps: none where one has a field out of range, fill that is not zero, or a client without a record.
     fn steps(&self, records: &[ClientRecord; SLOTS]) -> Option<[Step; MOST_STEPS]>
-        ensures { result ≡ then_some (every_below self.now.counts.steps (λ k. step_taken self.now.bytes.now records.now (step_place self.now.counts.clients k))) (pad_to blank_step 64 (steps_to self.now.bytes.now self.now.counts.clients self.now.counts.steps)) }
+        ensures { result ≡ steps_read self.now.bytes.now self.now.counts.clients self.now.counts.steps records.now }
     {
         let mut steps = [blank_step(); MOST_STEPS];
         for k in 0..self.counts.steps {

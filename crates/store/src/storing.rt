@@ -123,7 +123,11 @@ fn put_content(block: &mut [u8], q: &Sequence, slots: &[u8], b: usize)
         put_u32(block, 8, q.edition.saturating_sub(1));
         return;
     }
-    let clients = (slots.len() + 2) / 3;
+    let counts = Counts {
+        clients: slots.len(),
+        steps: steps.len(),
+    };
+    let clients = counts.client_blocks();
     if b <= clients {
         let k = 3 * (b - 1);
         put_clients(block, &q.records, &slots[k..slots.len().min(k + 3)]);

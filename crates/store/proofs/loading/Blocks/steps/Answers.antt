@@ -4,7 +4,7 @@ use Rattle.client.specs.declared.ClientRecord.{ClientRecord}
 use Rattle.sequence.specs.declared.Step.{Step}
 use Rattle.store.specs.Blocks.{step_place}
 use Rattle.store.specs.Fields.{step_right}
-use Rattle.store.specs.Loaded.{is_blank, step_at}
+use Rattle.store.specs.Loaded.{step_at, step_blank}
 use Rattle.store.specs.Taken.{step_taken}
 use Rattle.store.proofs.Below.{every_next, every_fails}
 use Rattle.store.proofs.Taking.{ReadStep, step_wrong, step_alone, step_taken_lem, step_stored}
@@ -12,7 +12,7 @@ use Rattle.store.proofs.loading.Blocks.steps.Goals as goal
 
 -- the step that the loop looks at, once its fields and its fill are tested
 found :
-    (s : List ℕ) (c k : ℕ) (bytes : List ℕ) (x : Step) (r b : Bool) → bytes ≡ drop (step_place c k) s → x ≡ step_at bytes 0 → r ≡ step_right x → b ≡ is_blank bytes 12 16
+    (s : List ℕ) (c k : ℕ) (bytes : List ℕ) (x : Step) (r b : Bool) → bytes ≡ drop (step_place c k) s → x ≡ step_at bytes 0 → r ≡ step_right x → b ≡ step_blank bytes 0
     → ReadStep s c k bytes x r b
 found s c k bytes x r b e f g h = record { at = e; read = f; right = g; blank = h }
 
