@@ -1,7 +1,7 @@
 -- Laws of `every_below` and `some_below_lem`: what they say of each number and of one of them, one number more, two tests at once, and the one by the other.
 use Prim.Native.Nat.{ℕ, zero, suc, ◌+◌, ◌<◌}
 use mathlib.Core.Path.{◌≡◌, refl, sym, ap, ◌∙◌}
-use mathlib.Core.Bool.{Bool, true, false, not, ◌&&◌, ◌||◌, true≢false, and-true, or-false, and-false}
+use mathlib.Core.Bool.{Bool, true, false, ◌&&◌, ◌||◌, true≢false, and-true, or-false, and-false}
 use mathlib.Core.List.{List, [], ◌∷◌, ◌++◌}
 use native.Mathlib.Numerals.{add-one}
 use native.Mathlib.Omega.{arith}
@@ -12,15 +12,6 @@ use Rattle.std.proofs.lemmas.List.Folds.{list_all-append, list_any-append}
 use Rattle.octets.proofs.Tests.{both}
 use Rattle.arrays.proofs.Every.{neither}
 use Rattle.store.specs.Below.{every_below, some_below}
-
--- some element fails where not all pass
-any_fails : {X : Type 0} (p : X → Bool) (l : List X) → list_any (λ x. not (p x)) l ≡ not (list_all p l)
-any_fails p [] = refl
-any_fails p (x ∷ l) = rw (any_fails p l) (go (p x) (list_all p l))
-  where
-    go : (a b : Bool) → (not a || not b) ≡ not (a && b)
-    go true b = refl
-    go false b = refl
 
 -- two tests at once
 all_both : {X : Type 0} (p q : X → Bool) (l : List X) → list_all (λ x. p x && q x) l ≡ (list_all p l && list_all q l)
@@ -118,22 +109,11 @@ module _ (p : ℕ → Bool) where
       go false q true r f t = let x = f r in (x.0, let l = x.1 in omega arith, x.2)
       go false q false r f t = absurd (true≢false (sym t))
 
-  -- some number fails where not all pass
-  pub some_fails : (n : ℕ) → some_below n (λ k. not (p k)) ≡ not (every_below n p)
-  some_fails n = any_fails p (range_with_len 0 n)
-
   -- ---- a loop
 
   -- one number more
   pub every_next : (n : ℕ) → every_below n p ≡ true → p n ≡ true → every_below (n + 1) p ≡ true
   every_next n h e = ap (λ (k : ℕ). every_below k p) (add-one n) ∙ every_suc n ∙ rw h e
-
-  pub some_next : (n : ℕ) → some_below (n + 1) p ≡ (some_below n p || p n)
-  some_next n = ap (λ (k : ℕ). some_below k p) (add-one n) ∙ some_suc n
-
-  -- it is through
-  pub every_all : (n k : ℕ) → k ≡ n → every_below k p ≡ true → every_below n p ≡ true
-  every_all n k e h = rw e at h
 
 -- what holds of each of n numbers from i on
 pub range_below : (p : ℕ → Bool) (i n : ℕ) → list_all p (range_with_len i n) ≡ every_below n (λ k. p (i + k))

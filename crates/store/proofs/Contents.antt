@@ -48,13 +48,6 @@ module _ (c n b : ℕ) (h : b < blocks_for c n) where
   pub block_room : c ≤ 8 → n ≤ 64 → 512 * b + 512 ≤ 4096
   block_room few most = omega arith
 
-  module _ (m r : ℕ) (e : m ≡ client_blocks c) where
-    pub clients_room : 1 ≤ b → b ≤ m → r ≡ min (c - 3 * (b - 1)) 3 → (r ≤ 3) × (3 * (b - 1) + r ≤ c)
-    clients_room f g q = (omega arith, omega arith)
-
-    pub steps_room : m < b → r ≡ min (n - 31 * (b - 1 - m)) 31 → (r ≤ 31) × (31 * (b - 1 - m) + r ≤ n)
-    steps_room g q = (omega arith, omega arith)
-
 -- ---- blocks of the client records cs and the steps ns
 
 abbrev pub contents : ℕ → ℕ → ℕ → List (List ℕ) → List (List ℕ) → List (List ℕ)

@@ -22,9 +22,6 @@ joined_append (x ∷ a) b = ap (λ (l : List ℕ). x ++ l) (joined_append a b) �
 -- ---- storing them, from the j-th on
 
 module _ (w : ℕ) (l : List (List ℕ)) (j : ℕ) (out : List ℕ) where
-  pub item_start : j ≡ 0 → sets out 0 (joined l) ≡ sets out (w * j) (joined (drop j l))
-  item_start e = rw (e, mul-zero w)
-
   pub item_end : length l ≤ j → sets out (w * j) (joined (drop j l)) ≡ out
   item_end h = ap (λ (r : List (List ℕ)). sets out (w * j) (joined r)) (drop_of_length-le l {i = j} h)
 

@@ -1,12 +1,12 @@
--- Laws of `sets`: what stands at a place afterwards, a longer list over a shorter one, and what is stored in a part.
-use Prim.Native.Nat.{ℕ, suc, ◌+◌, ◌≤◌, ◌<◌}
+-- Laws of `sets`: what stands at a place afterwards and what is stored in a part.
+use Prim.Native.Nat.{ℕ, ◌+◌, ◌≤◌}
 use native.Mathlib.Omega.{arith}
-use mathlib.Core.Path.{◌≡◌, refl, sym, ap, ◌∙◌}
-use mathlib.Core.List.{List, [], ◌∷◌, ◌++◌, append_assoc}
+use mathlib.Core.Path.{◌≡◌, sym, ap, ◌∙◌}
+use mathlib.Core.List.{List, ◌++◌, append_assoc}
 use borrow.Rule.Slice.PartMut.{put_mid}
 use Rattle.std.proofs.lemmas.List.{drop-append-le}
-use lib.ListN.{length, take, drop, set, length-drop, take-append-drop}
-use lib.Seq.{sets, sets-eq, set-set, set_comm, drop_at, drop-drop, take_at, length-take-le}
+use lib.ListN.{length, take, drop, length-drop, take-append-drop}
+use lib.Seq.{sets, sets-eq, drop_at, drop-drop, take_at, length-take-le}
 
 -- ---- what stands at a place
 
@@ -17,28 +17,6 @@ stands l i n xs e h =
     let room : i ≤ length l = omega arith in
     rw (sets-eq xs l i fits, append_assoc (take i l) xs (drop (i + length xs) l), drop_at (take i l) (xs ++ drop (i + length xs) l) i (length-take-le i l room))
     (take_at xs (drop (i + length xs) l) n e)
-
--- what stands there already
-pub sets_same : (l : List ℕ) (i n : ℕ) → i + n ≤ length l → sets l i (take n (drop i l)) ≡ l
-sets_same l i n h =
-    let long : length (take n (drop i l)) ≡ n = length-take-le n (drop i l) (omega (arith, length-drop i l)) in
-    let fits : i + length (take n (drop i l)) ≤ length l = omega arith in
-    rw (sets-eq (take n (drop i l)) l i fits, long, append_assoc (take i l) (take n (drop i l)) (drop (i + n) l), ← drop-drop n i l, take-append-drop n (drop i l), take-append-drop i l)
-
--- ---- a longer list over a shorter one
-
-set_sets : (l : List ℕ) (i j x : ℕ) (ys : List ℕ) → i < j → set (sets l j ys) i x ≡ sets (set l i x) j ys
-set_sets l i j x [] h = refl
-set_sets l i j x (y ∷ ys) h =
-    set_sets (set l j y) i (suc j) x ys (omega arith)
-    ∙ ap (λ (m : List ℕ). sets m (suc j) ys) (set_comm l j i y x (λ e. omega arith))
-
-pub sets_over : (l : List ℕ) (i : ℕ) (xs ys : List ℕ) → length xs ≤ length ys → sets (sets l i xs) i ys ≡ sets l i ys
-sets_over l i [] ys h = refl
-sets_over l i (x ∷ xs) [] h = absurd (omega arith)
-sets_over l i (x ∷ xs) (y ∷ ys) h =
-    ap (λ (m : List ℕ). sets m (suc i) ys) (set_sets (set l i x) i (suc i) y xs (omega arith) ∙ ap (λ (m : List ℕ). sets m (suc i) xs) (set-set l i x y))
-    ∙ sets_over (set l i y) (suc i) xs ys (omega arith)
 
 -- ---- a part, and what is stored in it
 

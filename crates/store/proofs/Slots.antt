@@ -7,7 +7,7 @@ use mathlib.Core.Path.{◌≡◌, refl, sym, ap, ◌∙◌}
 use mathlib.Core.Bool.{Bool, true, false, cond}
 use mathlib.Core.List.{List, [], ◌∷◌, ◌++◌, append-nil}
 use lib.Dec.{eqb}
-use lib.ListN.{length, get_or, take, length-take}
+use lib.ListN.{length, get_or, take}
 use lib.Seq.{take-suc}
 use borrow.Author.Tests.{eq-eqb, ne_eqb, eqb-true, eqb-false}
 use Rattle.arrays.specs.Arrays.{those}
@@ -109,9 +109,6 @@ module _ (records : List ClientRecord) where
   slots_all = refl
 
   module _ (i : ℕ) (h : i < 8) where
-    slots_short : length (slots_to i) ≤ i
-    slots_short = omega (arith, those_short (is_there records) (take i (from 0 8)), length-take i (from 0 8), length_from 0 8)
-
     grown : slots_to (i + 1) ≡ slots_to i ++ cond (is_there records i) (i ∷ []) []
     grown =
         let m : i < length (from 0 8) = h in
