@@ -25,13 +25,20 @@ pub(crate) struct Counts {
     ghost few_steps: { steps ≤ 64 },
 }
 
+// 1 to 8 clients and 1 to 64 steps.
+fn counts_right(clients: u32, steps: u32) -> bool
+    ensures { result ≡ counts_right clients steps }
+{
+    (1 <= clients) & (clients <= 8) & (1 <= steps) & (steps <= 64)
+}
+
 impl Counts {
-    // 1 to 8 clients and 1 to 64 steps, as blocks may say.
+    // As blocks may say.
     pub(crate) fn new(clients: u32, steps: u32) -> Option<Counts>
         ensures right { is_some result ≡ counts_right clients steps }
         ensures value { IfSome result (λ counts. (counts.clients ≡ clients) × (counts.steps ≡ steps)) }
     {
-        if !((1 <= clients) & (clients <= 8) & (1 <= steps) & (steps <= 64)) {
+        if !counts_right(clients, steps) {
             return None;
         }
         Some(Counts {

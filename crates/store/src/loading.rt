@@ -146,9 +146,9 @@ fn has_step(steps: &[Step], slot: u8) -> bool
 
 // ---- all of them
 
-impl<'a> Blocks<'a> {
+impl Blocks<'_> {
     // The bytes from client record k on.
-    fn client(&self, k: usize) -> &'a [u8]
+    fn client(&self, k: usize) -> &[u8]
         requires { k < self.now.counts.clients }
         ensures { result.now ≡ drop (client_place k) self.now.bytes.now }
     {
@@ -163,7 +163,7 @@ impl<'a> Blocks<'a> {
     }
 
     // The bytes from step k on.
-    fn step(&self, k: usize) -> &'a [u8]
+    fn step(&self, k: usize) -> &[u8]
         requires { k < self.now.counts.steps }
         ensures { result.now ≡ drop (step_place self.now.counts.clients k) self.now.bytes.now }
     {
