@@ -23,11 +23,12 @@ use Rattle.store.specs.Blocks.{block_bytes, blocks_for, client_place, step_place
 use Rattle.store.specs.Fields.{step_right}
 use Rattle.store.specs.Stored.{client_bytes, step_bytes, slots_in, contents_of, stored_of, store_bytes}
 use Rattle.store.specs.Loaded.{client_at, client_right, client_blank, step_at, step_blank, client_count, step_count, edition_in, client_slot, step_slot, records_to, steps_to, sequence_in, counts_right, are_clients_right, are_steps_right, is_fill_blank, is_no_slot_twice, has_each_record, has_each_step, is_faulty, load_number, loaded_of}
-use Rattle.store.specs.declared.Loaded.{Loaded}
+use Rattle.store.specs.Loaded.{Loaded}
 use Rattle.store.specs.Legal.{Legal, FitsStep, FitsRecord, Fits}
 use Rattle.store.specs.Whole.{clients_by, stored_by, Orders}
 use Rattle.store.proofs.Below.{every_below_lem, none_below, some_below_lem}
-use Rattle.store.proofs.Lists.{at_some, map_at}
+use Rattle.store.proofs.Lists.{at_some}
+use Rattle.std.proofs.lemmas.List.{get_or-map}
 use Rattle.store.proofs.Stands.{At, at_left, at_right, at_number}
 use Rattle.store.proofs.Items.{counted, counted_length, client_length, step_length}
 use Rattle.store.proofs.Fields.{edition_parts}
@@ -105,7 +106,7 @@ module _ (q : Sequence) (L : Legal q) (F : Fits q) (slots : List ℕ) (O : Order
 
   module _ (k : ℕ) (h : k < length slots) where
     client_at_lem : At s (client_place k) (client_bytes (slot_of slots k) (record_in q (slot_of slots k)))
-    client_at_lem = rw (map_at (λ slot. client_bytes slot (record_in q slot)) slots k 0 [] h) at (client_stands (written q L slots O s e) k h)
+    client_at_lem = rw (get_or-map (λ slot. client_bytes slot (record_in q slot)) slots k 0 [] h) at (client_stands (written q L slots O s e) k h)
 
     slot_is : client_slot s k ≡ slot_of slots k
     slot_is = slot_read (slot_of slots k) (recorded_at q L slots O k h).right client_at_lem
@@ -125,7 +126,7 @@ module _ (q : Sequence) (L : Legal q) (F : Fits q) (slots : List ℕ) (O : Order
 
   module _ (k : ℕ) (h : k < length (steps_of q)) where
     step_at_lem : At s (step_place (length slots) k) (step_bytes (step_of q k))
-    step_at_lem = rw (map_at step_bytes (steps_of q) k blank_step [] h) at (step_stands (written q L slots O s e) k h)
+    step_at_lem = rw (get_or-map step_bytes (steps_of q) k blank_step [] h) at (step_stands (written q L slots O s e) k h)
 
     step_right_lem : step_right (step_of q k) ≡ true
     step_right_lem = every_at (λ t. step_right t ≡ true) (steps_of q) k blank_step h L.steps

@@ -1,14 +1,14 @@
 -- General laws of lists: every element, one that passes a test, those that pass it, a part, and a list that is filled up.
-use Prim.Native.Nat.{ℕ, zero, suc, ◌+◌, ◌-◌, ◌≤◌, ◌<◌, min}
+use Prim.Native.Nat.{ℕ, zero, suc, ◌-◌, ◌≤◌, ◌<◌, min}
 use mathlib.Core.Path.{◌≡◌, refl, sym, ap, ◌∙◌}
 use mathlib.Core.Bool.{Bool, true, false, ◌||◌, cond, true≢false, or-true}
-use mathlib.Core.List.{List, [], ◌∷◌, ◌++◌, map}
+use mathlib.Core.List.{List, [], ◌∷◌, ◌++◌}
 use native.Mathlib.Omega.{arith}
-use lib.ListN.{length, take, drop, get_or, replicate, length-drop, length-map, get_or-map, get_or-append}
-use lib.Seq.{get_or-take, get_or-drop, length-take-le, take-take}
+use lib.ListN.{length, take, drop, get_or, replicate, length-drop}
 use Rattle.octets.specs.Label.{row_of}
 use Rattle.arrays.specs.{Arrays.some, Arrays.those, Arrays.pad_to, Every.Every}
-use Rattle.arrays.proofs.{Every.every_more, Fill.pad_none, Pad.any_default, Most.most}
+use Rattle.std.proofs.lemmas.List.{take_min}
+use Rattle.arrays.proofs.{Every.every_more, Fill.pad_none}
 
 -- ---- every element
 
@@ -84,29 +84,13 @@ module _ {X : Type 0} (p : X → Bool) where
       go true m = (suc m.0, omega (arith, m.1), m.2)
       go false m = m
 
--- ---- a list seen through a function, and a part of it
-
-pub map_at : {X Y : Type 0} (f : X → Y) (l : List X) (k : ℕ) (d : X) (o : Y) → k < length l → get_or (map f l) k o ≡ f (get_or l k d)
-map_at f l k d o h = any_default (map f l) k o (f d) (omega (arith, length-map l f)) ∙ get_or-map f l k d
-
--- n elements from the k-th on
-module _ {X Y : Type 0} (f : X → Y) (l : List X) (n k : ℕ) (h : k + n ≤ length l) where
-  pub part_length : length (take n (drop k (map f l))) ≡ n
-  part_length = length-take-le n (drop k (map f l)) (omega (arith, length-drop k (map f l), length-map l f))
-
-  pub part_at : (j : ℕ) (d : X) (o : Y) → j < n → get_or (take n (drop k (map f l))) j o ≡ f (get_or l (k + j) d)
-  part_at j d o g = get_or-take n (drop k (map f l)) j o g ∙ get_or-drop k (map f l) j o ∙ map_at f l (k + j) d o (omega arith)
+-- ---- a part of a list
 
 -- a part of a list that reaches no further than the list
 pub part_most : {X : Type 0} (l : List X) (n k c r : ℕ) → length l ≡ c → r ≡ min (c - k) n → take n (drop k l) ≡ take r (drop k l)
-part_most l n k c r e q = most (drop k l) n (c - k) r (length-drop k l ∙ ap (λ (m : ℕ). m - k) e) (omega arith)
-
--- a part of a list's first elements
-pub part_take : {X : Type 0} (n k m : ℕ) (l : List X) → k + n ≤ m → take n (drop k (take m l)) ≡ take n (drop k l)
-part_take n zero m l h = take-take n m l (omega arith)
-part_take n (suc k) zero l h = absurd (omega arith)
-part_take n (suc k) (suc m) [] h = refl
-part_take n (suc k) (suc m) (x ∷ l) h = part_take n k m l (omega arith)
+part_most l n k c r e q =
+    let least : min n (length (drop k l)) ≡ r = omega (arith, length-drop k l) in
+    sym (take_min n (drop k l)) ∙ ap (λ (m : ℕ). take m (drop k l)) least
 
 -- ---- a list that is filled up
 
@@ -118,7 +102,3 @@ module _ {X : Type 0} (blank : X) where
   pad_is (suc n) (x ∷ l) h =
       let z : suc n - suc (length l) ≡ n - length l = omega arith in
       rw z (ap (λ (k : List X). x ∷ k) (pad_is n l (omega arith)))
-
-  -- a cell that is used
-  pub pad_at : (n : ℕ) (l : List X) (k : ℕ) (d : X) → k < length l → length l ≤ n → get_or (pad_to blank n l) k d ≡ get_or l k d
-  pad_at n l k d h m = ap (λ (r : List X). get_or r k d) (pad_is n l m) ∙ get_or-append l (replicate (n - length l) blank) d k h

@@ -20,7 +20,8 @@ use Rattle.store.specs.Loaded.{client_blank, client_count, step_count, edition_i
 use Rattle.store.specs.Below.{every_below}
 use Rattle.store.specs.Whole.{slots_read, stored_by, Whole}
 use Rattle.store.proofs.Below.{below_cases, below_every, below_none, some_below_lem}
-use Rattle.store.proofs.Lists.{every_row, map_at}
+use Rattle.store.proofs.Lists.{every_row}
+use Rattle.std.proofs.lemmas.List.{get_or-map}
 use Rattle.store.proofs.Stands.{At}
 use Rattle.store.proofs.Contents.{contents, used_fits, length_contents, client_content, step_content}
 use Rattle.store.proofs.Blocks.{length_blocks}
@@ -138,7 +139,7 @@ module _ (s : List ℕ) (B : Bytes s) (f : Faultless s) (d : is_damaged s ≡ fa
 
   client_stands : (k : ℕ) → k < c → At s (client_place k) (get_or (map client (slots_read s c)) k [])
   client_stands k h =
-      rw (map_at client (slots_read s c) k 0 [] (rw (length_cells c _) h), cell c (client_slot s) k h, record_of k h)
+      rw (get_or-map client (slots_read s c) k 0 [] (rw (length_cells c _) h), cell c (client_slot s) k h, record_of k h)
       (client_there s B (client_place k) (omega (arith, f.blocks)) (client_right_lem s f k h)
       (below_every (λ i. client_blank s (client_place i)) c fills.0 k h))
 
@@ -147,7 +148,7 @@ module _ (s : List ℕ) (B : Bytes s) (f : Faultless s) (d : is_damaged s ≡ fa
 
   step_stands : (k : ℕ) → k < n → At s (step_place c k) (get_or (map step_bytes (steps_to s c n)) k [])
   step_stands k h =
-      rw (map_at step_bytes (steps_to s c n) k blank_step [] (rw (steps_length s c n) h), step_of s c n k h)
+      rw (get_or-map step_bytes (steps_to s c n) k blank_step [] (rw (steps_length s c n) h), step_of s c n k h)
       (step_there s B (step_place c k) (omega (arith, f.blocks)) (below_every (λ i. step_blank s (step_place c i)) n fills.1 k h))
 
   head_stands : At s 0 (head_of c n (edition_in s))
