@@ -6,7 +6,7 @@ ghost use Rattle.playback.specs.Named.{lowest_slot, first_missing, named_by};
 
 use crate::checks::{client_check, first_missing_in};
 use arrays::at_most;
-use client::{Client, ClientRecord, READY, SLOTS};
+use client::{Client, ClientRecord, Report, SLOTS};
 use octets::numbers::{DONE, NOT_ENABLED, NOT_IN_POOL, NOT_READY};
 use sequence::{MOST_STEPS, Sequence, Step};
 
@@ -39,7 +39,7 @@ pub fn lowest_not_ready(slots: [Client; SLOTS], records: [ClientRecord; SLOTS]) 
 {
     let mut i: usize = 0;
     while i < SLOTS {
-        if (records[i].used != 0) & (slots[i].report != READY) {
+        if (records[i].used != 0) & (slots[i].report != Report::Ready as u8) {
             return i;
         }
         i += 1;
