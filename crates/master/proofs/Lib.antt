@@ -4,3 +4,4 @@ pub mod Reading
 pub mod Calls
 pub mod Slots
 pub mod Stores
+pub mod Views
