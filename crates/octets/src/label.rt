@@ -5,7 +5,7 @@ ghost use Rattle.octets.specs.Label.{blank, label_at};
 use crate::byte_at;
 
 #[repr(C)]
-#[derive(Clone, Copy)]
+#[derive(Clone, Copy, PartialEq, Eq)]
 pub struct Label {
     pub length: u8,
     pub bytes: [u8; 63],

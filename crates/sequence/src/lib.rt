@@ -1,11 +1,10 @@
 // A sequence: the steps that a recording has kept or that blocks said, the records of their clients, and its edition.
 #![tactic(auto)]
 
-ghost use Rattle.std.specs.Prelude.{◌≡◌};
-ghost use Rattle.sequence.specs.Sequence.{blank_step, blank_sequence, length_of};
+ghost use Rattle.std.specs.Prelude.{◌≡◌, length};
+ghost use Rattle.sequence.specs.Sequence.{blank_step, blank_sequence, length_of, steps_of};
 ghost use Rattle.sequence.specs.Editions.{is_edition, with_edition};
 
-use arrays::at_most;
 use client::{ClientRecord, SLOTS, blank_record};
 
 // How many steps a recording, a sequence and a playback have room for.
@@ -55,40 +54,45 @@ pub fn blank_step() -> Step
     }
 }
 
+#[tactic(auto, unfolding(crate::specs::Sequence::blank_sequence))]
 pub fn blank_sequence() -> Sequence
     ensures { result ≡ blank_sequence }
 {
-    let step = blank_step();
-    let client = blank_record();
-    let steps = [step; MOST_STEPS];
-    let records = [client; SLOTS];
     Sequence {
         count: 0,
         edition: 0,
-        steps,
-        records,
+        steps: [blank_step(); MOST_STEPS],
+        records: [blank_record(); SLOTS],
     }
 }
 
 pub fn is_edition(edition: u32) -> bool
     ensures { result ≡ is_edition edition }
 {
-    (edition == FIRST_EDITION) | (edition == SECOND_EDITION)
+    matches!(edition, FIRST_EDITION | SECOND_EDITION)
 }
 
 impl Sequence {
     // How many steps there are.
-    pub fn len(self) -> usize
-        ensures { result ≡ length_of self }
+    pub fn len(&self) -> usize
+        ensures { result ≡ length_of self.now }
     {
-        at_most(self.count, MOST_STEPS)
+        self.count.min(MOST_STEPS)
+    }
+
+    // The steps that are used, in their order.
+    #[tactic(auto, using(std::proofs::lemmas::List::take_min), unfolding(crate::specs::Sequence::steps_of))]
+    pub fn steps(&self) -> &[Step]
+        ensures used { result.now ≡ steps_of self.now }
+        ensures as_many { length (steps_of self.now) ≡ length_of self.now }
+    {
+        &self.steps[..self.len()]
     }
 
     // The same sequence in this edition.
-    pub fn with_edition(mut self, edition: u32) -> Sequence
+    pub fn with_edition(self, edition: u32) -> Sequence
         ensures { result ≡ with_edition self edition }
     {
-        self.edition = edition;
-        self
+        Sequence { edition, ..self }
     }
 }
