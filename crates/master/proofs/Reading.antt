@@ -14,7 +14,7 @@ use Rattle.master.specs.declared.Master.{Master}
 use Rattle.message.specs.declared.Reply.{Reply}
 use Rattle.sequence.specs.declared.Sequence.{Sequence}
 use Rattle.playback.specs.declared.Playback.{Playback}
-use Rattle.playback.specs.declared.Answered.{Answered}
+use Rattle.playback.specs.Answer.{Answered}
 use Rattle.playback.specs.Answer.{answered_of}
 use Rattle.master.specs.Call.{slot_at}
 use Rattle.master.specs.States.{is_playing}

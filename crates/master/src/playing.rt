@@ -14,7 +14,7 @@ use flat::kinds::{ANSWER, CLIENT_ABORT};
 use flat::reply_from;
 use message::{CLIENT, Reply};
 use octets::numbers::Refusal;
-use playback::{TO_ABORT, TO_READY, blank_playback, verify};
+use playback::{End, blank_playback, verify};
 
 impl Master {
     pub fn start(mut self) -> Outcome
@@ -41,7 +41,7 @@ impl Master {
     fn verified(&self) -> Result<(), Refusal>
         ensures { answer_number result ≡ verify_of self.now.slots self.now.sequence }
     {
-        refused_by(verify(self.slots, self.sequence))
+        verify(&self.slots, &self.sequence)
     }
 
     // The operator's word.
@@ -132,14 +132,10 @@ impl Master {
         if !self.is(State::Playback) {
             return Err(Refusal::NoMatch);
         }
-        let answered = self.playback.answer(self.sequence, slot as u8, reply);
-        refused_by(answered.number)?;
-        if answered.end == TO_READY {
-            self.end(State::Ready);
-        } else if answered.end == TO_ABORT {
-            self.end(State::Abort);
-        } else {
-            self.playback = answered.playback;
+        match self.playback.answer(&self.sequence, slot as u8, reply)? {
+            End::GoesOn => {}
+            End::ToReady => self.end(State::Ready),
+            End::ToAbort => self.end(State::Abort),
         }
         Ok(())
     }
@@ -165,22 +161,4 @@ fn replied(msg: &[u8]) -> Result<Reply, Refusal>
         return Err(Refusal::WrongValue);
     }
     Ok(reply_from(message.step))
-}
-
-// A number that a crate below gives.
-pub(crate) fn refused_by(number: u8) -> Result<(), Refusal>
-    ensures { answer_number result ≡ number }
-{
-    match number {
-        0 => Ok(()),
-        7 => Err(Refusal::NoStep),
-        8 => Err(Refusal::NotEnabled),
-        9 => Err(Refusal::NameDiffers),
-        10 => Err(Refusal::LabelDiffers),
-        11 => Err(Refusal::NotInPool),
-        12 => Err(Refusal::NotReady),
-        15 => Err(Refusal::NoMatch),
-        16 => Err(Refusal::CheckWrong),
-        _ => Err(Refusal::NotStored),
-    }
 }

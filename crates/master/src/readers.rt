@@ -105,7 +105,7 @@ fn found<T: Copy>(items: &[T], i: usize, blank: T) -> (u8, T)
 pub fn step_at(sequence: &Sequence, i: usize) -> StepView
     ensures { result ≡ step_view sequence.now i }
 {
-    let (number, step) = found(&sequence.steps[..sequence.len()], i, blank_step());
+    let (number, step) = found(sequence.steps(), i, blank_step());
     StepView { number, step }
 }
 
@@ -205,6 +205,6 @@ impl Master {
     pub fn verify(&self) -> Named
         ensures { result ≡ verify_view self.now }
     {
-        first_named(self.slots, self.sequence)
+        first_named(&self.slots, &self.sequence)
     }
 }

@@ -19,7 +19,7 @@ use message::fields::status_number;
 use message::{CLIENT, Execution};
 use octets::numbers::Refusal;
 use playback::has_function;
-use recording::blank_recording;
+use recording::{blank_recording, number_of};
 
 impl Master {
     pub fn record(mut self) -> Outcome
@@ -62,7 +62,9 @@ impl Master {
     fn keep(&mut self)
         ensures { self.new ≡ recording_ended self.old }
     {
-        self.sequence = self.recording.kept(self.sequence);
+        if let Some(kept) = self.recording.kept() {
+            self.sequence = kept;
+        }
         self.end(State::Ready);
     }
 
@@ -184,7 +186,7 @@ impl Master {
         ensures error { result ≡ (interrupted self.old slot function).error }
         ensures after { self.new ≡ (interrupted self.old slot function).master }
     {
-        if has_function(self.sequence, slot as u8, function) {
+        if has_function(&self.sequence, slot as u8, function) {
             self.end(State::Abort);
             return 0x06;
         }
@@ -201,12 +203,12 @@ impl Master {
             ≡ recorded self.old (recording_heard self.old slot (slot_at self.old slot) execution).recording }
     {
         let complete = self.is(State::RecordComplete);
-        let heard = self.recording.heard(slot as u8, self.slots[slot], complete, execution);
-        self.recording = heard.recording;
+        let client = &self.slots[slot];
+        let heard = self.recording.heard(slot as u8, client, complete, execution);
         if complete & !self.recording.has_open() {
             self.keep();
         }
-        heard.error
+        number_of(heard)
     }
 }
 

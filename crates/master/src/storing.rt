@@ -6,9 +6,8 @@ ghost use Rattle.master.specs.Call.{gives, counted, outcome_of, leaves_of};
 ghost use Rattle.master.specs.Storing.{unstored, store_call, load_call};
 
 use crate::messages::has_room;
-use crate::playing::refused_by;
 use crate::{Master, Outcome, State};
-use octets::numbers::Refusal;
+use octets::numbers::{CHECK_WRONG, DONE, Refusal};
 use sequence::Sequence;
 use store::loading::load;
 use store::storing::{store, store_bytes};
@@ -72,6 +71,9 @@ fn loaded(blocks: &[u8]) -> Result<Sequence, Refusal>
     ensures sequence { IfOk result (λ sequence. sequence ≡ (loaded_of blocks.now).sequence) }
 {
     let loaded = load(blocks);
-    refused_by(loaded.number)?;
-    Ok(loaded.sequence)
+    match loaded.number {
+        DONE => Ok(loaded.sequence),
+        CHECK_WRONG => Err(Refusal::CheckWrong),
+        _ => Err(Refusal::NotStored),
+    }
 }

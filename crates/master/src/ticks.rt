@@ -7,7 +7,7 @@ ghost use Rattle.master.specs.Tick.{tick_call, recording_ticked, playback_ticked
 use crate::messages::has_room;
 use crate::{Master, Outcome, State};
 use octets::numbers::Refusal;
-use playback::{GOES_ON, blank_playback, frames};
+use playback::{End, blank_playback, frames};
 use sequence::LAST_TICK;
 
 impl Master {
@@ -49,7 +49,7 @@ impl Master {
     fn go_on_recording(&mut self, mm: u32)
         ensures { self.new ≡ recording_ticked self.old mm }
     {
-        self.recording = self.recording.counted(mm);
+        self.recording.counted(mm);
         if LAST_TICK <= self.recording.ticks {
             self.end(State::Ready);
         }
@@ -59,12 +59,10 @@ impl Master {
     fn go_on_playing(&mut self, mm: u32)
         ensures { self.new ≡ playback_ticked self.old mm }
     {
-        let ticked = self.playback.tick(self.sequence, self.tan, mm);
-        if ticked.end == GOES_ON {
-            self.tan = ticked.tan;
-            self.playback = ticked.playback;
-        } else {
-            self.end(State::Abort);
+        let mut tan = self.tan;
+        match self.playback.tick(&self.sequence, &mut tan, mm) {
+            End::GoesOn => self.tan = tan,
+            _ => self.end(State::Abort),
         }
     }
 
@@ -76,9 +74,9 @@ impl Master {
         ensures out_after { out.new ≡ frames_in self.now ++ drop 576 out.old }
     {
         if self.is(State::Playback) {
-            return frames(self.playback, self.sequence, out);
+            return frames(&self.playback, &self.sequence, out);
         }
-        frames(blank_playback(), self.sequence, out)
+        frames(&blank_playback(), &self.sequence, out)
     }
 }
 

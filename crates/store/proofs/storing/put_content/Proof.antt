@@ -27,7 +27,7 @@ returns c =
     let s2 = less.before.before.before.before in
     let s1 = s2.before.before.before.before in
     let n = s1.before.before.before in
-    let s = n.before.before in
+    let s = n.before.before.before in
     let a = s.args in
     let none = s1.before.before.if-b-eq0.true in (
       rw (s3.put_u32-then-b-eq0-2.ensures, less.less_one.ensures, s2.put_u32-then-b-eq0.ensures, s1.put_u32.ensures)
@@ -44,7 +44,7 @@ within n = rw (n.before.before.requires.1, n.len-n.ensures) n.before.before.requ
 
 room : (n : tie.After-len-n) → 512 * n.before.before.args.b + 512 ≤ 4096
 room n =
-    let s = n.before.before in
+    let s = n.before.before.before in
     let few = slots_few s.args.q.records in
     block_room s.args.used.count n.len-n.result s.args.b (within n) (omega arith) (omega arith)
 
@@ -52,7 +52,7 @@ put_clients_requires : tie.Need-put_clients-requires
 put_clients_requires c κs =
     let m = c.before.before.before.before in
     let n = m.before.before in
-    let s = n.before.before in
+    let s = n.before.before.before in
     let fits = clients_room s.args.used.count n.len-n.result s.args.b (within n) m.client_blocks-clients.result c.at_most.result m.client_blocks-clients.ensures (omega arith) (omega arith) c.at_most.ensures in
     (room n, fits.0, rw (← s.requires.1) fits.1, s.requires.2)
 
@@ -62,7 +62,7 @@ returns_2 c =
     let l = w.before in
     let m = l.before.before.before.before in
     let n = m.before.before in
-    let s = n.before.before in
+    let s = n.before.before.before in
     let a = s.args in
     let some : 1 ≤ a.b = omega arith in
     let there = m.client_blocks-clients.ensures in
@@ -75,7 +75,7 @@ put_steps_requires : tie.Need-put_steps-requires
 put_steps_requires c κs =
     let m = c.before.before.before.before in
     let n = m.before.before in
-    let s = n.before.before in
+    let s = n.before.before.before in
     let fits = steps_room s.args.used.count n.len-n.result s.args.b (within n) m.client_blocks-clients.result c.at_most-2.result m.client_blocks-clients.ensures c.before.before.before.if-b-clients.false c.at_most-2.ensures in
     (room n, fits.0, omega (arith, fits.1, n.len-n.ensures))
 
@@ -85,7 +85,7 @@ returns_3 c =
     let l = w.before in
     let m = l.before.before.before.before in
     let n = m.before.before in
-    let s = n.before.before in
+    let s = n.before.before.before in
     let a = s.args in
     let later = l.before.before.before.if-b-clients.false in
     let there = m.client_blocks-clients.ensures in
