@@ -1,7 +1,15 @@
 -- What a message that was read says: its kind and its values; and what it does, by the slot's number.
 use Prim.Native.Nat.{ℕ}
 use mathlib.Core.Path.{◌≡◌, ap, ◌∙◌}
-use mathlib.Core.Bool.{true, false}
+use mathlib.Core.Bool.{Bool, true, false}
+use borrow.Author.Tests.{eqb-false}
+use Rattle.std.proofs.Common.{Result, Ok, Err}
+use Rattle.octets.specs.Numbers.{completed, no_match}
+use Rattle.octets.specs.Refusals.{refusal_number}
+use Rattle.octets.specs.declared.numbers.Refusal.{Refusal}
+use Rattle.playback.specs.State.{goes_on}
+use Rattle.playback.specs.declared.End.{End}
+use Rattle.master.proofs.Calls.{some_number}
 use mathlib.Core.List.{List}
 use lib.ListN.{get_or}
 use Rattle.client.specs.Clients.{no_slot}
@@ -15,7 +23,7 @@ use Rattle.message.specs.declared.Reply.{Reply}
 use Rattle.sequence.specs.declared.Sequence.{Sequence}
 use Rattle.playback.specs.declared.Playback.{Playback}
 use Rattle.playback.specs.Answer.{Answered}
-use Rattle.playback.specs.Answer.{answered_of}
+use Rattle.playback.specs.Answer.{answered, answered_of}
 use Rattle.master.specs.Call.{slot_at}
 use Rattle.master.specs.States.{is_playing}
 use Rattle.master.specs.Recording.{recorded, interrupted, recording_heard, heard}
@@ -39,6 +47,26 @@ pub heard_recording :
     (recorded m h.recording ≡ (heard m slot (slot_at m slot) e).master) × (h.error ≡ (heard m slot (slot_at m slot) e).error)
 unfolding pick heard
 heard_recording m octet slot at e o p t = (rw (o, p, t), rw (o, p, t))
+
+-- an answer that matches none leaves the playback
+pub unanswered :
+    (p : Playback) (q : Sequence) (slot : ℕ) (r : Reply) (why : Refusal) (after : Playback) → answered (Err why) after ≡ answered_of p q slot r → after ≡ p
+unfolding answered_of pick
+unanswered p q slot r why after e = go _ _ _ _ e
+  where
+    go :
+        (a b c d : Bool) {end second third : End} {x y z : Playback}
+        → record { number = refusal_number why; end = goes_on; playback = after }
+        ≡ pick a (record { number = no_match; end = goes_on; playback = p })
+        (pick b (record { number = completed; end = end; playback = x })
+        (pick c (record { number = completed; end = second; playback = y })
+        (pick d (record { number = completed; end = third; playback = z }) (record { number = completed; end = goes_on; playback = z }))))
+        → after ≡ p
+    go true b c d e = ap (λ (x : Answered). x.playback) e
+    go false true c d e = absurd (eqb-false _ _ (some_number why) (ap (λ (x : Answered). x.number) e))
+    go false false true d e = absurd (eqb-false _ _ (some_number why) (ap (λ (x : Answered). x.number) e))
+    go false false false true e = absurd (eqb-false _ _ (some_number why) (ap (λ (x : Answered). x.number) e))
+    go false false false false e = absurd (eqb-false _ _ (some_number why) (ap (λ (x : Answered). x.number) e))
 
 pub answered_at :
     (p : Playback) (q : Sequence) (octet slot : ℕ) (r : Reply) (a : Answered) → octet ≡ slot → a ≡ answered_of p q octet r → a ≡ answered_of p q slot r

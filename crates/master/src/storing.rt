@@ -7,7 +7,7 @@ ghost use Rattle.master.specs.Storing.{unstored, store_call, load_call};
 
 use crate::messages::has_room;
 use crate::{Master, Outcome, State};
-use octets::numbers::{CHECK_WRONG, DONE, Refusal};
+use octets::numbers::Refusal;
 use sequence::Sequence;
 use store::loading::load;
 use store::storing::{store, store_bytes};
@@ -27,11 +27,11 @@ impl Master {
         ensures value { counted result self.now ≡ outcome_of self.now (store_call self.now out.old) }
         ensures out_after { out.new ≡ leaves_of (store_call self.now out.old) }
     {
-        let bytes = store_bytes(self.sequence);
+        let bytes = store_bytes(&self.sequence);
         has_room(out, bytes)?;
         self.in_state(State::Ready)?;
         has_steps(&self.sequence)?;
-        store(self.sequence, out);
+        store(&self.sequence, out);
         Ok(bytes as u32)
     }
 
@@ -65,15 +65,11 @@ fn has_steps(sequence: &Sequence) -> Result<(), Refusal>
     Ok(())
 }
 
-// The sequence that the blocks say.
+// The sequence that the blocks say, or why there is none.
+#[tactic(auto, unfolding(store::specs::Loaded::loaded_of, octets::specs::Pick::pick))]
 fn loaded(blocks: &[u8]) -> Result<Sequence, Refusal>
     ensures number { answer_number result ≡ load_number blocks.now }
     ensures sequence { IfOk result (λ sequence. sequence ≡ (loaded_of blocks.now).sequence) }
 {
-    let loaded = load(blocks);
-    match loaded.number {
-        DONE => Ok(loaded.sequence),
-        CHECK_WRONG => Err(Refusal::CheckWrong),
-        _ => Err(Refusal::NotStored),
-    }
+    load(blocks)
 }

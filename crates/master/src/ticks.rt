@@ -55,14 +55,14 @@ impl Master {
         }
     }
 
-    #[tactic(auto, unfolding(crate::specs::Tick::playback_ticked, octets::specs::Pick::pick))]
+    #[tactic(auto, unfolding(crate::specs::Tick::playback_ticked, crate::specs::States::ended, octets::specs::Pick::pick))]
     fn go_on_playing(&mut self, mm: u32)
         ensures { self.new ≡ playback_ticked self.old mm }
     {
         let mut tan = self.tan;
         match self.playback.tick(&self.sequence, &mut tan, mm) {
             End::GoesOn => self.tan = tan,
-            _ => self.end(State::Abort),
+            End::ToReady | End::ToAbort => self.end(State::Abort),
         }
     }
 
