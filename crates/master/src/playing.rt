@@ -120,7 +120,7 @@ impl Master {
     }
 
     // An answer to a sent step. Number 15 where it matches none; outside playback no step counts as sent.
-    #[tactic(auto, using(crate::proofs::Reading::unanswered), unfolding(crate::specs::Playback::unmatched, crate::specs::Playback::replied, crate::specs::States::ended, octets::specs::Pick::pick))]
+    #[tactic(auto, unfolding(crate::specs::Playback::unmatched, crate::specs::Playback::replied, crate::specs::States::ended, octets::specs::Pick::pick))]
     fn reply(&mut self, slot: usize, reply: Reply) -> Result<(), Refusal>
         requires { slot < 8 }
         ensures number { answer_number result

@@ -204,7 +204,9 @@ impl Master {
     {
         let complete = self.is(State::RecordComplete);
         let client = &self.slots[slot];
-        let heard = self.recording.heard(slot as u8, client, complete, execution);
+        let heard = self
+            .recording
+            .heard(slot as u8, client, complete, execution);
         if complete & !self.recording.has_open() {
             self.keep();
         }

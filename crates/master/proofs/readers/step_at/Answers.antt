@@ -1,8 +1,7 @@
 -- `master::readers::step_at` meets its contract: what is found, as its view.
-use Rattle.std.proofs.Common.{arith, min, get_or, take, length-take}
+use Rattle.std.proofs.Common.{arith, min, get_or}
 use Rattle.std.proofs.lemmas.List.{get_or-take}
 use Rattle.sequence.specs.Sequence.{blank_step, steps_of}
-use Rattle.sequence.specs.declared.Step.{Step}
 use Rattle.master.specs.Readers.{step_view}
 use Rattle.master.proofs.Views.{viewed}
 use Rattle.master.proofs.readers.step_at.Goals as goal
@@ -13,4 +12,5 @@ returns c =
     let i = c.args.i in
     let q = c.args.sequence.now in
     viewed (λ number x. record { number = number; step = x }) (steps_of q) (min q.count 64) i blank_step (get_or q.steps i blank_step)
-    c.steps.ensures.as_many c.blank_step.ensures ? ? (λ l. get_or-take q.count q.steps i blank_step (omega arith))
+    c.steps.ensures.as_many c.blank_step.ensures (rw c.steps.ensures.used at c.found-number.ensures.number)
+    (rw c.steps.ensures.used at c.found-number.ensures.item) (λ l. get_or-take q.count q.steps i blank_step (omega arith))
