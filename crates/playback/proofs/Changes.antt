@@ -1,7 +1,7 @@
 -- What ticks and answers change, and what they keep.
 use Prim.Native.Nat.{ℕ, suc, ◌+◌, ◌<◌}
-use mathlib.Core.Path.{◌≡◌, refl, ◌∙◌}
-use mathlib.Core.Bool.{Bool, true, false, not, cond}
+use mathlib.Core.Path.{◌≡◌, refl, ap, ◌∙◌}
+use mathlib.Core.Bool.{Bool, true, false, not, cond, true≢false}
 use mathlib.Core.List.{List, [], ◌∷◌}
 use native.Mathlib.Omega.{arith}
 use borrow.Author.Tests.{leb-true, leb-false, lt-leb, eq-eqb}
@@ -18,12 +18,10 @@ use Rattle.sequence.specs.declared.Step.{Step}
 use Rattle.sequence.specs.declared.Sequence.{Sequence}
 use Rattle.playback.specs.declared.Sent.{Sent}
 use Rattle.playback.specs.declared.Playback.{Playback}
-use Rattle.playback.specs.declared.Ticked.{Ticked}
-use Rattle.playback.specs.declared.Answered.{Answered}
 use Rattle.playback.specs.Pairs.{pairs}
-use Rattle.playback.specs.State.{answer_done, goes_on, to_ready, to_abort, blank_sent, blank_playback}
-use Rattle.playback.specs.Tick.{counted_playback, does_stop, does_leave, next_tan, after_leaving, tick_of}
-use Rattle.playback.specs.Answer.{is_answer_of, find_answered, is_error, answer_from, with_answer, is_all_done, answered_of}
+use Rattle.playback.specs.State.{answer_done, goes_on, to_ready, to_abort, same_end, blank_sent, blank_playback}
+use Rattle.playback.specs.Tick.{Ticked, counted_playback, does_stop, does_leave, next_tan, after_leaving, tick_of}
+use Rattle.playback.specs.Answer.{Answered, is_answer_of, find_answered, is_error, answer_from, with_answer, is_all_done, answered_of}
 use Rattle.playback.specs.Promises.{Tidy, Changes}
 use Rattle.playback.proofs.Leaves.{leaves_within, leaves_step}
 
@@ -94,8 +92,8 @@ ending p q tan mm = go (does_stop (counted_playback p mm)) (does_leave (counted_
 
     go : (s l : Bool) → (at s l).end ≡ to_abort → ((at s l).tan ≡ tan) × ((at s l).playback.sent ≡ p.sent) × ((at s l).playback.commands ≡ p.commands)
     go true l e = (refl, refl, refl)
-    go false true e = absurd (omega (arith, e))
-    go false false e = absurd (omega (arith, e))
+    go false true e = absurd (true≢false (ap (same_end goes_on) e))
+    go false false e = absurd (true≢false (ap (same_end goes_on) e))
 
 -- ---- answers
 

@@ -1,16 +1,17 @@
--- A list of checks: the first that does not hold, and a loop that looks for it.
+-- A list of checks: the first that does not hold.
 use mathlib.Core.Path.{◌≡◌, refl, sym, ap, ◌∙◌}
-use mathlib.Core.Bool.{Bool, true, false, not, ◌&&◌}
+use mathlib.Core.Bool.{Bool, true, false, not, ◌||◌}
 use mathlib.Core.Logic.{◌⊎◌, inl, inr}
-use mathlib.Core.List.{List, [], ◌∷◌, ◌++◌, flat_map, append_assoc}
-use Prim.Native.Nat.{ℕ, ◌+◌, ◌≤◌, ◌<◌}
-use native.Mathlib.Numerals.{add-one}
+use mathlib.Core.List.{List, [], ◌∷◌, ◌++◌, flat_map}
+use Prim.Native.Nat.{ℕ, ◌≤◌}
 use native.Mathlib.Omega.{arith}
 use lib.Dec.{eqb}
-use lib.ListN.{length, get_or, drop, drop_of_length-le}
-use lib.Seq.{drop-cons}
 use borrow.Author.Tests.{eq-eqb, ne_eqb}
 use Rattle.octets.specs.Pick.{pick}
+use Rattle.arrays.specs.Arrays.{some}
+use Rattle.octets.specs.Refusals.{refusal_number}
+use Rattle.octets.specs.declared.numbers.Refusal.{Refusal}
+use Rattle.octets.specs.declared.numbers.Refusal.TheVariants.{TooShort, WrongState, WrongSlot, WrongValue, NotExpected, PoolRefused, NoStep, NotEnabled, NameDiffers, LabelDiffers, NotInPool, NotReady, NotDisabled, NoneEnabled, NoMatch, CheckWrong, NotStored}
 use Rattle.octets.specs.Numbers.{completed, no_step, not_enabled, label_differs, not_in_pool, not_ready}
 use Rattle.client.specs.Clients.{ready_report}
 use Rattle.client.specs.Records.{is_used}
@@ -20,8 +21,8 @@ use Rattle.sequence.specs.Sequence.{steps_of}
 use Rattle.sequence.specs.declared.Step.{Step}
 use Rattle.sequence.specs.declared.Sequence.{Sequence}
 use Rattle.playback.specs.Pairs.{pairs}
-use Rattle.playback.specs.Verification.{Check, Rule, first_failing, of_sequence, client_checks, step_checks, ready_checks, checks_by}
-use Rattle.playback.proofs.Pairs.{length_pairs, get_d_pairs}
+use Rattle.playback.specs.Verification.{Check, Rule, first_failing, of_sequence, client_checks, is_in_pool, step_checks, ready_checks, checks_by}
+use Rattle.playback.specs.Named.{fails}
 
 -- the checks' numbers are these, from one to another
 abbrev pub Within : ℕ → ℕ → List Check → Type 0
@@ -105,39 +106,66 @@ checks_numbered agree slots q = (
       (within_all no_step not_ready ready_checks ready_numbered (pairs slots q.records))),
 )
 
--- ---- a loop over two arrays of n cells, cell by cell, each pair with its checks: what the pairs from number i on give
+-- a refusal has a number
+pub refused : (why : Refusal) → refusal_number why ≡ 0 → ⊥
+refused TooShort e = absurd (omega (arith, e))
+refused WrongState e = absurd (omega (arith, e))
+refused WrongSlot e = absurd (omega (arith, e))
+refused WrongValue e = absurd (omega (arith, e))
+refused NotExpected e = absurd (omega (arith, e))
+refused PoolRefused e = absurd (omega (arith, e))
+refused NoStep e = absurd (omega (arith, e))
+refused NotEnabled e = absurd (omega (arith, e))
+refused NameDiffers e = absurd (omega (arith, e))
+refused LabelDiffers e = absurd (omega (arith, e))
+refused NotInPool e = absurd (omega (arith, e))
+refused NotReady e = absurd (omega (arith, e))
+refused NotDisabled e = absurd (omega (arith, e))
+refused NoneEnabled e = absurd (omega (arith, e))
+refused NoMatch e = absurd (omega (arith, e))
+refused CheckWrong e = absurd (omega (arith, e))
+refused NotStored e = absurd (omega (arith, e))
 
-pub left_of : {X Y : Type 0} → (X × Y → List Check) → List X → List Y → ℕ → ℕ
-left_of f a b i = first_failing (flat_map f (drop i (pairs a b)))
+-- ---- a list for each element
 
-module _ {X Y : Type 0} (f : X × Y → List Check) (a : List X) (b : List Y) where
-  pub start_of : first_failing (flat_map f (pairs a b)) ≡ left_of f a b 0
-  unfolding left_of
-  start_of = refl
+module _ {X : Type 0} (f : X → List Check) (numbered : (x : X) → Numbered (f x)) where
+  -- the first element's decides, or the others'
+  pub passed_one : (x : X) (l : List X) → 0 ≡ first_failing (f x) → first_failing (flat_map f (x ∷ l)) ≡ first_failing (flat_map f l)
+  unfolding flat_map
+  passed_one x l e = passed (f x) (flat_map f l) (numbered x) (sym e)
 
-  module _ (n : ℕ) (e : length a ≡ n) (g : length b ≡ n) (i : ℕ) where
-    pub end_of : n ≤ i → left_of f a b i ≡ 0
-    unfolding left_of flat_map first_failing
-    end_of h = ap (λ (r : List (X × Y)). first_failing (flat_map f r)) (drop_of_length-le (pairs a b) {i = i} (omega (arith, length_pairs a b n e g)))
+  pub found_one : (x : X) (l : List X) (r : ℕ) → r ≡ first_failing (f x) → (r ≡ 0 → ⊥) → r ≡ first_failing (flat_map f (x ∷ l))
+  unfolding flat_map
+  found_one x l r e h = e ∙ sym (found (f x) (flat_map f l) (λ k. h (e ∙ k)))
 
-    module _ (x : X) (y : Y) (r : ℕ) (h : i < n) (q : r ≡ first_failing (f (get_or a i x, get_or b i y))) where
-      at : left_of f a b i ≡ first_failing (f (get_or a i x, get_or b i y) ++ flat_map f (drop (i + 1) (pairs a b)))
-      unfolding left_of flat_map
-      at = rw (add-one, drop-cons (pairs a b) i (x, y) (omega (arith, length_pairs a b n e g)), get_d_pairs a b i x y (omega arith) (omega arith))
+  -- one check for each, all of one number
+  module _ (bad : X → Bool) (n : ℕ) (some_number : n ≡ 0 → ⊥) (each : (x : X) → first_failing (f x) ≡ pick (bad x) n 0) where
+    pub one_number : (l : List X) → first_failing (flat_map f l) ≡ pick (some bad l) n 0
+    unfolding pick first_failing flat_map
+    one_number [] = refl
+    one_number (x ∷ l) = go (bad x) (each x) (one_number l)
+      where
+        go : (b : Bool) → first_failing (f x) ≡ pick b n 0 → first_failing (flat_map f l) ≡ pick (some bad l) n 0
+            → first_failing (f x ++ flat_map f l) ≡ pick (b || some bad l) n 0
+        go true e k = found (f x) (flat_map f l) (λ z. some_number (sym e ∙ z)) ∙ e
+        go false e k = passed (f x) (flat_map f l) (numbered x) e ∙ k
 
-      pub hit_of : (r ≡ 0 → ⊥) → left_of f a b i ≡ r
-      hit_of z = at ∙ found (f (get_or a i x, get_or b i y)) _ (λ w. z (q ∙ w)) ∙ sym q
-
-      pub miss_of : ((p : X × Y) → Numbered (f p)) → r ≡ 0 → left_of f a b i ≡ left_of f a b (i + 1)
-      unfolding left_of
-      miss_of m z = at ∙ passed (f (get_or a i x, get_or b i y)) _ (m _) (sym q ∙ z)
-
--- the check of a report, by its two tests
-pub ready_is : (slot : Client) (c : ClientRecord) → first_failing (ready_checks (slot, c)) ≡ pick (is_used c && not (eqb slot.report ready_report)) not_ready completed
-unfolding pick first_failing of_sequence ready_checks
-ready_is slot c = go (is_used c) (eqb slot.report ready_report)
+-- "11 function or state not in the loaded pool"
+pub steps_in_pool : (slots : List Client) (l : List Step)
+    → first_failing (flat_map (step_checks slots) l) ≡ pick (some (λ s. not (is_in_pool slots s)) l) not_in_pool completed
+unfolding pick first_failing step_checks
+steps_in_pool slots = one_number (step_checks slots) (step_numbered slots) (λ s. not (is_in_pool slots s)) 11 (λ e. omega arith) (λ s. go (is_in_pool slots s))
   where
-    go : (u r : Bool) → first_failing (pick u ((r, not_ready) ∷ []) []) ≡ pick (u && not r) not_ready completed
+    go : (b : Bool) → ◌≡◌ {A = ℕ} (pick b 0 11) (pick (not b) 11 0)
+    go true = refl
+    go false = refl
+
+-- "12 a client is not reporting ready"
+pub all_ready : (l : List (Client × ClientRecord)) → first_failing (flat_map ready_checks l) ≡ pick (some (fails ready_checks) l) not_ready completed
+unfolding pick first_failing of_sequence ready_checks
+all_ready = one_number ready_checks ready_numbered (fails ready_checks) 12 (λ e. omega arith) (λ x. go (is_used x.1) (eqb x.0.report ready_report))
+  where
+    go : (u r : Bool) → first_failing (pick u ((r, 12) ∷ []) []) ≡ pick (not (eqb (first_failing (pick u ((r, 12) ∷ []) [])) 0)) 12 0
     go true true = refl
     go true false = refl
     go false r = refl
@@ -157,28 +185,41 @@ module _ (agree : Rule) (slots : List Client) (q : Sequence) where
   clients_numbered : Numbered clients
   clients_numbered = within_all no_step not_ready (client_checks agree) (client_numbered agree) (pairs slots q.records)
 
-  pub by_client : (r : ℕ) → first_failing clients ≡ r → (r ≡ 0 → ⊥) → r ≡ first_failing (clients ++ steps)
-  by_client r e h = sym (found clients steps (λ k. h (sym e ∙ k)) ∙ e)
-
-  pub by_step : first_failing clients ≡ 0 → (r : ℕ) → first_failing steps ≡ r → r ≡ first_failing (clients ++ steps)
-  by_step e r f = sym (passed clients steps clients_numbered e ∙ f)
+  steps_numbered : Numbered steps
+  steps_numbered = within_all no_step not_ready (step_checks slots) (step_numbered slots) (steps_of q)
 
   pub without_step : q.count ≡ 0 → no_step ≡ first_failing (checks_by agree slots q)
   unfolding pick first_failing checks_by
   without_step e = rw (eq-eqb _ _ e)
 
-  module _ (z : q.count ≡ 0 → ⊥) (a : ℕ) (e : a ≡ first_failing (clients ++ steps)) where
-    all : first_failing (checks_by agree slots q) ≡ first_failing ((clients ++ steps) ++ reports)
+  module _ (z : q.count ≡ 0 → ⊥) where
+    with_steps : first_failing (checks_by agree slots q) ≡ first_failing (clients ++ (steps ++ reports))
     unfolding pick first_failing checks_by
-    all = rw (ne_eqb _ _ z) (ap first_failing (sym (append_assoc clients steps reports)))
+    with_steps = rw (ne_eqb _ _ z)
 
-    pub by_slot : (a ≡ 0 → ⊥) → a ≡ first_failing (checks_by agree slots q)
-    by_slot h = e ∙ sym (all ∙ found (clients ++ steps) reports (λ k. h (e ∙ k)))
+    pub by_client : (r : ℕ) → r ≡ first_failing clients → (r ≡ 0 → ⊥) → r ≡ first_failing (checks_by agree slots q)
+    by_client r e h = e ∙ sym (with_steps ∙ found clients _ (λ k. h (e ∙ k)))
 
-    pub by_ready : a ≡ 0 → (r : ℕ) → r ≡ first_failing reports → r ≡ first_failing (checks_by agree slots q)
-    by_ready h r g =
-        g
-        ∙ sym
-        (all
-        ∙ passed (clients ++ steps) reports
-        (within_append no_step not_ready clients steps clients_numbered (within_all no_step not_ready (step_checks slots) (step_numbered slots) (steps_of q))) (sym e ∙ h))
+    module _ (e : 0 ≡ first_failing clients) where
+      with_clients : first_failing (checks_by agree slots q) ≡ first_failing (steps ++ reports)
+      with_clients = with_steps ∙ passed clients _ clients_numbered (sym e)
+
+      in_pools : (b : Bool) → some (λ s. not (is_in_pool slots s)) (steps_of q) ≡ b → first_failing steps ≡ pick b not_in_pool completed
+      in_pools b f = steps_in_pool slots (steps_of q) ∙ ap (λ (t : Bool). pick t not_in_pool completed) f
+
+      pub by_missing : some (λ s. not (is_in_pool slots s)) (steps_of q) ≡ true → not_in_pool ≡ first_failing (checks_by agree slots q)
+      unfolding pick
+      by_missing f = let k = in_pools true f in sym (with_clients ∙ found steps reports (λ z. omega (arith, k, z)) ∙ k)
+
+      module _ (f : some (λ s. not (is_in_pool slots s)) (steps_of q) ≡ false) where
+        by_reports : (b : Bool) → some (fails ready_checks) (pairs slots q.records) ≡ b → pick b not_ready completed ≡ first_failing (checks_by agree slots q)
+        unfolding pick
+        by_reports b g = sym (with_clients ∙ passed steps reports steps_numbered (in_pools false f) ∙ all_ready (pairs slots q.records) ∙ ap (λ (t : Bool). pick t not_ready completed) g)
+
+        pub by_unready : some (fails ready_checks) (pairs slots q.records) ≡ true → not_ready ≡ first_failing (checks_by agree slots q)
+        unfolding pick
+        by_unready = by_reports true
+
+        pub all_hold : some (fails ready_checks) (pairs slots q.records) ≡ false → completed ≡ first_failing (checks_by agree slots q)
+        unfolding pick
+        all_hold = by_reports false

@@ -43,7 +43,7 @@ pub framing : Framing
 unfolding frames_of
 framing = record {
   command = command;
-  bytes = λ p steps. length_filled p.ticks steps p.commands p.sent;
+  bytes = λ p steps. length_filled p.ticks p.sent steps p.commands;
   few = λ p e. let h = (few p.ticks p.sent p.commands).0 in omega arith;
   sent = λ p. (few p.ticks p.sent p.commands).1;
   none = λ p steps e. ap (λ (n : ℕ). filled_of p.ticks n steps p.commands) e ∙ sym (none p.ticks steps p.commands);

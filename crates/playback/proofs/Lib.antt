@@ -1,14 +1,14 @@
 pub mod Pairs
+pub mod Positions
 pub mod Failing
 pub mod Each
-pub mod BySlot
-pub mod Labels
 pub mod Fill
 pub mod Leaves
+pub mod Answering
 pub mod Verifies
+pub mod Naming
 pub mod Agrees
 pub mod Holding
-pub mod Lowest
 pub mod Placed
 pub mod Changes
 pub mod Framing

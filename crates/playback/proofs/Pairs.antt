@@ -1,53 +1,46 @@
--- Two arrays of one length, cell by cell, and a loop that looks for the first pair of cells that passes a test.
-use mathlib.Core.Path.{◌≡◌, refl, ap, ◌∙◌}
-use mathlib.Core.Bool.{Bool, true, false}
+-- Two arrays, cell by cell: the library's laws of a `zip`, and what a loop over one has left.
+use mathlib.Core.Path.{◌≡◌, refl, ap}
+use mathlib.Core.Logic.{◌⊎◌, inl, inr}
 use mathlib.Core.List.{List, [], ◌∷◌}
-use Prim.Native.Nat.{ℕ, zero, suc, ◌+◌, ◌≤◌, ◌<◌}
+use Prim.Native.Nat.{ℕ, zero, suc, ◌<◌}
 use native.Mathlib.Omega.{arith}
 use lib.ListN.{length, get_or, take}
-use Rattle.arrays.specs.Arrays.{first_from}
-use Rattle.arrays.proofs.Walk.{rest, first_start, first_end, first_past, first_hit, first_miss}
+use denote.Ref.{Bor}
+use Rattle.std.specs.Prelude.{Option, Some, None}
+use Rattle.std.specs.Iterator.Adapters.{zip_first, zip_second}
+use Rattle.std.specs.Slice.Iter.{iter_rest}
+use Rattle.std.proofs.Common.{Iter}
+use Rattle.std.specs.declared.iter.Zip.{Zip}
+use Rattle.std.proofs.iter.Yields.{fronts}
+use Rattle.std.proofs.lemmas.Iterator.{zips}
+use Rattle.std.proofs.lemmas.Slice.Zip.{length-zip, get_or-zip, Zip-more, either_empty_from_Zip}
 use Rattle.playback.specs.Pairs.{pairs}
 
 module _ {X Y : Type 0} where
   pub length_pairs : (a : List X) (b : List Y) (n : ℕ) → length a ≡ n → length b ≡ n → length (pairs a b) ≡ n
-  length_pairs [] b n e f = e
-  length_pairs (x ∷ a) [] n e f = f
-  length_pairs (x ∷ a) (y ∷ b) zero e f = absurd (omega arith)
-  length_pairs (x ∷ a) (y ∷ b) (suc n) e f = ap suc (length_pairs a b n (omega arith) (omega arith))
+  length_pairs a b n e f = omega (arith, length-zip a b)
 
   pub get_d_pairs : (a : List X) (b : List Y) (i : ℕ) (x : X) (y : Y) → i < length a → i < length b → get_or (pairs a b) i (x, y) ≡ (get_or a i x, get_or b i y)
-  get_d_pairs [] b i x y h k = absurd (omega arith)
-  get_d_pairs (u ∷ a) [] i x y h k = absurd (omega arith)
-  get_d_pairs (u ∷ a) (v ∷ b) zero x y h k = refl
-  get_d_pairs (u ∷ a) (v ∷ b) (suc i) x y h k = get_d_pairs a b i x y (omega arith) (omega arith)
+  get_d_pairs a b i x y h k = get_or-zip a b i (x, y) h k
 
--- of the first n pairs, the first from number i on that passes a test
-pub seek : {X Y : Type 0} → ℕ → (X → Y → Bool) → List X → List Y → ℕ → ℕ → ℕ
-seek none p a b n i = first_from none (λ x. p x.0 x.1) i (rest (pairs a b) n i)
+  pub take_pairs : (n : ℕ) (a : List X) (b : List Y) → take n (pairs a b) ≡ pairs a (take n b)
+  take_pairs zero [] b = refl
+  take_pairs zero (x ∷ a) b = refl
+  take_pairs (suc n) [] b = refl
+  take_pairs (suc n) (x ∷ a) [] = refl
+  take_pairs (suc n) (x ∷ a) (y ∷ b) = ap (λ (l : List (X × Y)). (x, y) ∷ l) (take_pairs n a b)
 
-module _ {X Y : Type 0} (none : ℕ) (p : X → Y → Bool) (a : List X) (b : List Y) (n : ℕ) where
-  pub seek_start : first_from none (λ x. p x.0 x.1) 0 (take n (pairs a b)) ≡ seek none p a b n 0
-  unfolding seek
-  seek_start = first_start none (λ x. p x.0 x.1) (pairs a b) n
+  -- the pairs that are left
+  abbrev pub left : Zip (Iter X) (Iter Y) → List (X × Y)
+  left s = pairs (iter_rest (zip_first s)) (iter_rest (zip_second s))
 
-  pub seek_end : (i : ℕ) → n ≤ i → seek none p a b n i ≡ none
-  unfolding seek
-  seek_end i h = first_end none (λ x. p x.0 x.1) (pairs a b) n i h
+  pub left_more : (s t : Zip (Iter X) (Iter Y)) (r : Option (Bor X × Bor Y)) (p : Bor X × Bor Y) → r ≡ Some p → zips fronts fronts s r t → left s ≡ (p.0.now, p.1.now) ∷ left t
+  left_more s t r p e z = let m = Zip-more s t r p e z in rw (m.0, m.1)
 
-  module _ (m : ℕ) (e : length a ≡ m) (f : length b ≡ m) (i : ℕ) where
-    pub seek_past : m ≤ i → seek none p a b n i ≡ none
-    unfolding seek
-    seek_past h = first_past none (λ x. p x.0 x.1) (pairs a b) n i (omega (arith, length_pairs a b m e f))
-
-    module _ (x : X) (y : Y) (h : i < n) (k : i < m) where
-      here : (t : Bool) → p (get_or a i x) (get_or b i y) ≡ t → p (get_or (pairs a b) i (x, y)).0 (get_or (pairs a b) i (x, y)).1 ≡ t
-      here t q = ap (λ (z : X × Y). p z.0 z.1) (get_d_pairs a b i x y (omega arith) (omega arith)) ∙ q
-
-      pub seek_hit : p (get_or a i x) (get_or b i y) ≡ true → seek none p a b n i ≡ i
-      unfolding seek
-      seek_hit t = first_hit none (λ x. p x.0 x.1) (pairs a b) n i (x, y) h (omega (arith, length_pairs a b m e f)) (here true t)
-
-      pub seek_miss : p (get_or a i x) (get_or b i y) ≡ false → seek none p a b n i ≡ seek none p a b n (i + 1)
-      unfolding seek
-      seek_miss t = first_miss none (λ x. p x.0 x.1) (pairs a b) n i (x, y) h (omega (arith, length_pairs a b m e f)) (here false t)
+  pub left_none : (s t : Zip (Iter X) (Iter Y)) (r : Option (Bor X × Bor Y)) → r ≡ None → zips fronts fronts s r t → left s ≡ []
+  left_none s t r e z = go _ _ (either_empty_from_Zip s t r e z)
+    where
+      go : (a : List X) (b : List Y) → (a ≡ []) ⊎ (b ≡ []) → pairs a b ≡ []
+      go a b (inl e) = rw e
+      go [] b (inr e) = refl
+      go (x ∷ a) b (inr e) = rw e

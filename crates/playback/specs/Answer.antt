@@ -1,12 +1,12 @@
 -- 01, "Verification and playback", an answer: "An E.7 must match slot, TAN, function and state of a sent step, else 15 .. 01 marks it started, 00 and 10
 -- done, 11 aborts; a further answer for a done step, 11 or an error too, is acknowledged and changes nothing."
-use Rattle.std.specs.Prelude.{ℕ, Bool, not, ◌&&◌, ◌||◌, List, eqb, leb, take, get_or, set}
-use Rattle.octets.specs.{Pick.pick, Numbers.completed, Numbers.no_match}
+use Rattle.std.specs.Prelude.{ℕ, Bool, not, ◌&&◌, ◌||◌, List, eqb, leb, take, get_or, set, Result, Ok, Err}
+use Rattle.octets.specs.{Pick.pick, Numbers.completed, Numbers.no_match, Refusals.refusal_number, declared.numbers.Refusal.Refusal}
 use Rattle.message.specs.{Fields.status_number, declared.Reply.Reply}
 use Rattle.arrays.specs.Arrays.{some, first_from}
 use Rattle.sequence.specs.Sequence.{most_steps, length_of, steps_of}
 use Rattle.sequence.specs.{declared.Step.Step, declared.Sequence.Sequence}
-use Rattle.playback.specs.{declared.Sent.Sent, declared.Playback.Playback, declared.Answered.Answered, Pairs.pairs}
+use Rattle.playback.specs.{declared.Sent.Sent, declared.Playback.Playback, declared.End.End, Pairs.pairs}
 use Rattle.playback.specs.State.{answer_started, answer_done, goes_on, to_ready, to_abort, blank_sent, is_undone}
 
 -- "must match slot, TAN, function and state"
@@ -44,6 +44,17 @@ some_undone sent commands = some is_undone (take sent commands)
 -- "when all steps are done": every one has left and is done
 unfoldable pub is_all_done : Playback → ℕ → Bool
 is_all_done p count = leb count p.sent && not (some_undone p.sent p.commands)
+
+-- after an answer: whether it matched, by its number, and what becomes of the playback
+pub record Answered : Type 0 where
+  pub number : ℕ
+  pub end : End
+  pub playback : Playback
+
+-- what a call gives back, with the playback after it: a playback that an answer is not for goes on
+abbrev pub answered : Result End Refusal → Playback → Answered
+answered (Ok end) p = record { number = completed; end = end; playback = p }
+answered (Err why) p = record { number = refusal_number why; end = goes_on; playback = p }
 
 -- "else 15"; "a further answer for a done step, 11 or an error too, .. changes nothing"; "11 aborts"; "01 marks it started, 00 and 10 done"; "Playback
 -- goes to ready when all steps are done"

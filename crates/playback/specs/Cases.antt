@@ -1,12 +1,12 @@
 -- 01, "Cases": those of a tick, and of an answer in time.
-use Rattle.std.specs.Prelude.{ℕ, ◌≡◌, List, [], ◌∷◌, map, eqb, length, take, replicate}
+use Rattle.std.specs.Prelude.{ℕ, ◌≡◌, List, [], ◌∷◌, map, length, take, replicate}
 use Rattle.octets.specs.Pick.{pick}
 use Rattle.message.specs.{declared.Reply.Reply, declared.Status.TheVariants.Started}
 use Rattle.arrays.specs.Arrays.{pad_to}
 use Rattle.client.specs.{Clients.slot_count, Records.blank_record}
 use Rattle.sequence.specs.{Sequence.most_steps, Sequence.blank_step, Editions.first_edition, declared.Step.Step, declared.Sequence.Sequence}
-use Rattle.playback.specs.{declared.Sent.Sent, declared.Ticked.Ticked, Tick.tick_of, Frames.frame_count_of, Answer.answered_of}
-use Rattle.playback.specs.State.{goes_on, to_abort, blank_playback}
+use Rattle.playback.specs.{declared.Sent.Sent, Tick.Ticked, Tick.tick_of, Frames.frame_count_of, Answer.answered_of}
+use Rattle.playback.specs.State.{goes_on, to_abort, same_end, blank_playback}
 
 -- function 5, state 2, value 240 of slot 1, with a mark in ticks, or in millimetres where distance is 1
 abbrev pub marked : ℕ → ℕ → Step
@@ -18,7 +18,7 @@ sequence_with l = record { count = length l; edition = first_edition; steps = pa
 -- after the ticks that bring these millimetres, one after the other; none follows one that ends it
 abbrev pub onward : Sequence → Ticked → List ℕ → Ticked
 onward q t [] = t
-onward q t (mm ∷ mms) = pick (eqb t.end goes_on) (onward q (tick_of t.playback q t.tan mm) mms) t
+onward q t (mm ∷ mms) = pick (same_end t.end goes_on) (onward q (tick_of t.playback q t.tan mm) mms) t
 
 -- the same, from the start of the playback; the TAN before the first command is 0
 abbrev pub played : Sequence → List ℕ → Ticked

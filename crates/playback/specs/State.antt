@@ -1,7 +1,8 @@
--- The state of a playback, and the names of its numbers.
-use Rattle.std.specs.Prelude.{ℕ, Bool, not, eqb, replicate}
+-- The state of a playback, the names of its numbers, and what becomes of it.
+use Rattle.std.specs.Prelude.{ℕ, Bool, true, false, not, eqb, replicate}
 use Rattle.sequence.specs.Sequence.{most_steps}
-use Rattle.playback.specs.{declared.Sent.Sent, declared.Playback.Playback}
+use Rattle.playback.specs.{declared.Sent.Sent, declared.Playback.Playback, declared.End.End}
+use Rattle.playback.specs.declared.End.TheVariants.{GoesOn, ToReady, ToAbort}
 
 -- the answer to a sent step: "01 marks it started, 00 and 10 done". A number that is not here counts as started
 abbrev pub answer_none : ℕ
@@ -15,14 +16,26 @@ answer_done = 2
 
 -- what becomes of a playback at a tick or an answer: "Playback goes to ready when all steps are done; to abort on .. an error answer .. or by the tick
 -- rules"
-abbrev pub goes_on : ℕ
-goes_on = 0
+abbrev pub goes_on : End
+goes_on = GoesOn
 
-abbrev pub to_ready : ℕ
-to_ready = 1
+abbrev pub to_ready : End
+to_ready = ToReady
 
-abbrev pub to_abort : ℕ
-to_abort = 2
+abbrev pub to_abort : End
+to_abort = ToAbort
+
+-- the same of the three
+abbrev pub same_end : End → End → Bool
+same_end GoesOn GoesOn = true
+same_end GoesOn ToReady = false
+same_end GoesOn ToAbort = false
+same_end ToReady GoesOn = false
+same_end ToReady ToReady = true
+same_end ToReady ToAbort = false
+same_end ToAbort GoesOn = false
+same_end ToAbort ToReady = false
+same_end ToAbort ToAbort = true
 
 abbrev pub blank_sent : Sent
 blank_sent = record { tan = 0; answer = answer_none; left = 0 }

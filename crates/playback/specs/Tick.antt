@@ -5,7 +5,7 @@ use Rattle.octets.specs.Pick.{pick}
 use Rattle.arrays.specs.Arrays.{some, more}
 use Rattle.sequence.specs.Sequence.{most_steps, last_tick, blank_step, length_of}
 use Rattle.sequence.specs.{declared.Step.Step, declared.Sequence.Sequence}
-use Rattle.playback.specs.{declared.Sent.Sent, declared.Playback.Playback, declared.Ticked.Ticked}
+use Rattle.playback.specs.{declared.Sent.Sent, declared.Playback.Playback, declared.End.End}
 use Rattle.playback.specs.State.{answer_none, goes_on, to_abort, is_unanswered}
 
 -- "count it", and the millimetres that it brings
@@ -50,6 +50,15 @@ after_leaving p tan =
       sent = p.sent + 1;
       commands = set p.commands p.sent (record { tan = tan; answer = answer_none; left = p.ticks });
     }
+
+-- after a tick: what becomes of the playback, and the TAN of the last command
+pub record Ticked : Type 0 where
+  pub end : End
+  pub tan : ℕ
+  pub playback : Playback
+
+abbrev pub ticked : End → ℕ → Playback → Ticked
+ticked end tan p = record { end = end; tan = tan; playback = p }
 
 -- "count it; .. abort; else the next step in order leaves if due, one new step a tick"
 unfoldable pub tick_of : Playback → Sequence → ℕ → ℕ → Ticked

@@ -2,9 +2,10 @@
 -- step 11; then by slot 12. NAMEs agree if they agree on every bit set in the loaded pool's mask." What follows there, "The master NAME must agree in all
 -- 64 bits.", 02, request 2, has changed: "where the stored master NAME equals the stored client NAME, and the loaded one equals the loaded client NAME,
 -- the mask applies to both. Otherwise all 64 bits count, as before." Request 11 has added to it by the sequence's edition.
-use Rattle.std.specs.Prelude.{ℕ, ◌-◌, min, Bool, true, false, not, ◌&&◌, ◌||◌, eqb, ltb, get_or}
+use Rattle.std.specs.Prelude.{ℕ, Bool, not, ◌&&◌, ◌||◌, eqb, ltb, get_or}
 use mathlib.Core.List.{List, [], ◌∷◌, ◌++◌, flat_map}
 use Rattle.std.specs.Int.Bits.{bit_and}
+use Rattle.std.specs.Cmp.Lexicographic.{pointwise}
 use Rattle.octets.specs.{Pick.pick, declared.label.Label.Label}
 use Rattle.octets.specs.Numbers.{completed, no_step, not_enabled, name_differs, label_differs, not_in_pool, not_ready}
 use Rattle.profile.specs.{Profile.trigger, Profile.has_state, declared.Profile.Profile}
@@ -62,10 +63,7 @@ rule_of edition s c = (not (eqb edition second_edition) || identities_agree s c)
 -- ---- labels
 
 abbrev pub same_bytes : List ℕ → List ℕ → Bool
-same_bytes [] [] = true
-same_bytes [] (y ∷ ys) = false
-same_bytes (x ∷ xs) [] = false
-same_bytes (x ∷ xs) (y ∷ ys) = eqb x y && same_bytes xs ys
+same_bytes a b = pointwise eqb a b
 
 -- the length and every byte
 unfoldable pub same_label : Label → Label → Bool
@@ -84,14 +82,6 @@ is_listed pool function state = ltb state 64 && not (eqb (trigger pool function)
 -- in the pool loaded in the step's slot; above slot 7 there is none
 unfoldable pub is_in_pool : List Client → Step → Bool
 is_in_pool slots s = ltb s.slot slot_count && is_listed (get_or slots s.slot blank_slot).profile s.function s.state
-
--- how the steps are looked for, slot by slot. The slot whose pool is asked for a step: its own, or the last where there is none
-abbrev pub asked_slot : Step → ℕ
-asked_slot s = min s.slot (slot_count - 1)
-
--- the step is to be found in this pool, of this slot, and is not
-abbrev pub is_missing : Profile → ℕ → Step → Bool
-is_missing pool slot s = eqb (asked_slot s) slot && not (ltb s.slot slot_count && is_listed pool s.function s.state)
 
 -- ---- the checks of a start
 

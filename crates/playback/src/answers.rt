@@ -1,41 +1,31 @@
 // What an answer says, and which step a message is for.
-ghost use Rattle.std.specs.Prelude.{◌≡◌, take};
+ghost use Rattle.std.specs.Prelude.{◌≡◌, ◌<◌, length, position};
 ghost use Rattle.arrays.specs.Arrays.{some};
+ghost use Rattle.playback.specs.Pairs.{pairs};
 ghost use Rattle.playback.specs.State.{is_undone};
-ghost use Rattle.playback.specs.Answer.{is_answer_of, find_answered, is_error, answer_from, some_undone, is_function_of};
+ghost use Rattle.playback.specs.Answer.{is_answer_of, is_error, answer_from, is_function_of};
 
 use crate::{ANSWER_DONE, ANSWER_STARTED, Sent};
-use sequence::{MOST_STEPS, Step};
+use message::Reply;
+use sequence::Step;
 
-fn is_answer_of(s: Step, c: Sent, slot: u8, tan: u8, function: u8, state: u8) -> bool
-    ensures { result ≡ is_answer_of slot tan function state s c }
+fn is_answer_of(step: &Step, sent: &Sent, slot: u8, reply: Reply) -> bool
+    ensures { result ≡ is_answer_of slot reply.tan reply.function reply.state step.now sent.now }
 {
-    (s.slot == slot) & (c.tan == tan) & (s.function == function) & (s.state == state)
+    (step.slot == slot)
+        & (sent.tan == reply.tan)
+        & (step.function == reply.function)
+        & (step.state == reply.state)
 }
 
-// The number of the sent step that an answer matches, or 64.
-pub fn find(
-    steps: [Step; MOST_STEPS],
-    commands: [Sent; MOST_STEPS],
-    sent: usize,
-    slot: u8,
-    tan: u8,
-    function: u8,
-    state: u8,
-) -> usize
-    ensures { result ≡ find_answered steps commands sent slot tan function state }
+// The number of the first sent step that an answer of this slot matches.
+pub fn find(steps: &[Step], left: &[Sent], slot: u8, reply: Reply) -> Option<usize>
+    ensures { result ≡ position (λ x. is_answer_of slot reply.tan reply.function reply.state x.0 x.1) (pairs steps.now left.now) }
 {
-    let mut i: usize = 0;
-    while i < MOST_STEPS {
-        if i >= sent {
-            return MOST_STEPS;
-        }
-        if is_answer_of(steps[i], commands[i], slot, tan, function, state) {
-            return i;
-        }
-        i += 1;
-    }
-    MOST_STEPS
+    steps
+        .iter()
+        .zip(left)
+        .position(|(step, sent)| is_answer_of(step, sent, slot, reply))
 }
 
 pub fn is_error(status: u8, error: u8) -> bool
@@ -53,46 +43,28 @@ pub fn answer_from(status: u8) -> u8
     ANSWER_DONE
 }
 
-fn is_undone(c: Sent) -> bool
-    ensures { result ≡ is_undone c }
+fn is_undone(sent: &Sent) -> bool
+    ensures { result ≡ is_undone sent.now }
 {
-    c.answer != ANSWER_DONE
+    sent.answer != ANSWER_DONE
 }
 
-pub fn some_undone(commands: [Sent; MOST_STEPS], sent: usize) -> bool
-    ensures { result ≡ some_undone sent commands }
+pub fn some_undone(left: &[Sent]) -> bool
+    ensures { result ≡ some is_undone left.now }
 {
-    let mut i: usize = 0;
-    while i < MOST_STEPS {
-        if i >= sent {
-            return false;
-        }
-        if is_undone(commands[i]) {
-            return true;
-        }
-        i += 1;
-    }
-    false
+    left.iter().any(is_undone)
 }
 
-fn is_function_of(s: Step, slot: u8, function: u8) -> bool
-    ensures { result ≡ is_function_of slot function s }
+fn is_function_of(step: &Step, slot: u8, function: u8) -> bool
+    ensures { result ≡ is_function_of slot function step.now }
 {
-    (s.slot == slot) & (s.function == function)
+    (step.slot == slot) & (step.function == function)
 }
 
-pub fn some_function(steps: [Step; MOST_STEPS], count: usize, slot: u8, function: u8) -> bool
-    ensures { result ≡ some (is_function_of slot function) (take count steps) }
+pub fn some_function(steps: &[Step], slot: u8, function: u8) -> bool
+    ensures { result ≡ some (is_function_of slot function) steps.now }
 {
-    let mut i: usize = 0;
-    while i < MOST_STEPS {
-        if i >= count {
-            return false;
-        }
-        if is_function_of(steps[i], slot, function) {
-            return true;
-        }
-        i += 1;
-    }
-    false
+    steps
+        .iter()
+        .any(|step| is_function_of(step, slot, function))
 }

@@ -1,20 +1,17 @@
 // The checks of a start: each is done where it holds, and else gives its number.
-ghost use Rattle.std.specs.Prelude.{◌≡◌, not, ◌&&◌, eqb, ltb, take};
-ghost use mathlib.Core.List.{◌++◌, flat_map};
-ghost use Rattle.octets.specs.Bits.{has_bit};
-ghost use Rattle.arrays.specs.Arrays.{first_from};
-ghost use Rattle.client.specs.Clients.{slot_count};
-ghost use Rattle.sequence.specs.Sequence.{most_steps, steps_of};
+ghost use Rattle.std.specs.Prelude.{◌≡◌, not, position};
+ghost use mathlib.Core.List.{flat_map};
+ghost use Rattle.octets.specs.Refusals.{answer_number};
 ghost use Rattle.playback.specs.Pairs.{pairs};
-ghost use Rattle.playback.specs.Verification.{first_failing, agree_under, masters_agree, names_agree, rule_of, same_bytes, same_label, labels_agree, asked_slot, is_missing, client_checks, step_checks};
+ghost use Rattle.playback.specs.Verification.{first_failing, agree_under, masters_agree, names_agree, rule_of, same_label, labels_agree, is_listed, is_in_pool, client_checks, ready_checks};
+ghost use Rattle.playback.specs.Named.{fails};
 
-use arrays::at_most;
-use client::{Client, ClientRecord, SLOTS};
+use client::{Client, ClientRecord, Report, SLOTS};
 use octets::has_bit;
 use octets::label::Label;
-use octets::numbers::{DONE, LABEL_DIFFERS, NAME_DIFFERS, NOT_ENABLED, NOT_IN_POOL};
+use octets::numbers::Refusal;
 use profile::Profile;
-use sequence::{MOST_STEPS, SECOND_EDITION, Sequence, Step};
+use sequence::{SECOND_EDITION, Sequence, Step};
 
 // The identity number of a NAME: its lowest 21 bits.
 const IDENTITY_BITS: u64 = 0x1FFFFF;
@@ -36,137 +33,108 @@ fn masters_agree(owned: bool, mask: u64, loaded: u64, recorded: u64) -> bool
     loaded == recorded
 }
 
-fn names_agree(client: Client, recorded: ClientRecord) -> bool
-    ensures { result ≡ names_agree client recorded }
+fn names_agree(client: &Client, recorded: &ClientRecord) -> bool
+    ensures { result ≡ names_agree client.now recorded.now }
 {
-    let profile = client.profile;
+    let profile = &client.profile;
     let owned = (recorded.master == recorded.name) & (profile.master == client.name);
     agree_under(profile.mask, client.name, recorded.name)
         & masters_agree(owned, profile.mask, profile.master, recorded.master)
 }
 
 // By the rule of an edition: in edition 2 the identity numbers agree too, no matter what the mask says.
-fn agree_by(edition: u32, client: Client, recorded: ClientRecord) -> bool
-    ensures { result ≡ rule_of edition client recorded }
+fn agree_by(edition: u32, client: &Client, recorded: &ClientRecord) -> bool
+    ensures { result ≡ rule_of edition client.now recorded.now }
 {
     ((edition != SECOND_EDITION) | agree_under(IDENTITY_BITS, client.name, recorded.name))
         & names_agree(client, recorded)
 }
 
-fn same_bytes(a: [u8; 63], b: [u8; 63]) -> bool
-    ensures { result ≡ same_bytes a b }
+#[tactic(auto, unfolding(crate::specs::Verification::same_label))]
+fn same_label(a: &Label, b: &Label) -> bool
+    ensures { result ≡ same_label a.now b.now }
 {
-    let mut i: usize = 0;
-    while i < 63 {
-        if a[i] != b[i] {
-            return false;
-        }
-        i += 1;
-    }
-    true
+    *a == *b
 }
 
-fn same_label(a: Label, b: Label) -> bool
-    ensures { result ≡ same_label a b }
+#[tactic(auto, unfolding(crate::specs::Verification::labels_agree))]
+fn labels_agree(client: &Client, recorded: &ClientRecord) -> bool
+    ensures { result ≡ labels_agree client.now recorded.now }
 {
-    let these = a.bytes;
-    let those = b.bytes;
-    (a.length == b.length) & same_bytes(these, those)
-}
-
-fn labels_agree(client: Client, recorded: ClientRecord) -> bool
-    ensures { result ≡ labels_agree client recorded }
-{
-    let profile = client.profile;
-    let version = profile.version;
-    let configuration = profile.configuration;
-    let old_version = recorded.version;
-    let old_configuration = recorded.configuration;
-    same_label(version, old_version) & same_label(configuration, old_configuration)
+    let profile = &client.profile;
+    same_label(&profile.version, &recorded.version)
+        & same_label(&profile.configuration, &recorded.configuration)
 }
 
 // 8, 9, 10; done also where the slot is not one of the sequence.
-pub fn client_check(edition: u32, client: Client, recorded: ClientRecord) -> u8
-    ensures { result ≡ first_failing (client_checks (rule_of edition) (client, recorded)) }
+#[tactic(auto, unfolding(crate::specs::Verification::first_failing, crate::specs::Verification::of_sequence, crate::specs::Verification::client_checks, octets::specs::Pick::pick))]
+pub fn client_check(edition: u32, client: &Client, recorded: &ClientRecord) -> Result<(), Refusal>
+    ensures { answer_number result ≡ first_failing (client_checks (rule_of edition) (client.now, recorded.now)) }
 {
     if recorded.used == 0 {
-        return DONE;
+        return Ok(());
     }
     if !client.is_enabled() {
-        return NOT_ENABLED;
+        return Err(Refusal::NotEnabled);
     }
     if !agree_by(edition, client, recorded) {
-        return NAME_DIFFERS;
+        return Err(Refusal::NameDiffers);
     }
     if !labels_agree(client, recorded) {
-        return LABEL_DIFFERS;
+        return Err(Refusal::LabelDiffers);
     }
-    DONE
+    Ok(())
+}
+
+// 8, 9 and 10 by slot, the lowest first.
+pub fn client_checks(slots: &[Client; SLOTS], sequence: &Sequence) -> Result<(), Refusal>
+    ensures { answer_number result ≡ first_failing (flat_map (client_checks (rule_of sequence.now.edition)) (pairs slots.now sequence.now.records)) }
+{
+    for (client, recorded) in slots.iter().zip(&sequence.records) {
+        client_check(sequence.edition, client, recorded)?;
+    }
+    Ok(())
 }
 
 // The pool lists the function, with this state: by the function's trigger and its states in the tables of the pool.
-fn is_listed(trigger: u8, states: u64, state: u8) -> bool
-    ensures { result ≡ (ltb state 64 && not (eqb trigger 0) && has_bit states state) }
+#[tactic(auto, unfolding(crate::specs::Verification::is_listed, profile::specs::Profile::trigger, profile::specs::Profile::has_state))]
+fn is_listed(pool: &Profile, function: u8, state: u8) -> bool
+    ensures { result ≡ is_listed pool.now function state }
 {
-    if state >= 64 {
-        return false;
-    }
-    (trigger != 0) & has_bit(states, state as u64)
+    let at = function as usize;
+    (state < 64) && (pool.trigger[at] != 0) && has_bit(pool.states[at], state as u64)
 }
 
-// The step is to be looked for in the pool of this slot, and is not there. The last slot answers for slots that there are not.
-fn is_missing(step: Step, slot: usize, listed: bool) -> bool
-    ensures { result ≡ (eqb (asked_slot step) slot && not (ltb step.slot slot_count && listed)) }
+// In the pool that is loaded in the step's slot; above slot 7 there is none.
+#[tactic(auto, unfolding(crate::specs::Verification::is_in_pool))]
+fn is_in_pool(slots: &[Client; SLOTS], step: &Step) -> bool
+    ensures { result ≡ is_in_pool slots.now step.now }
 {
-    let own = step.slot as usize;
-    (at_most(own, SLOTS - 1) == slot) & !((own < SLOTS) & listed)
+    slots.get(step.slot as usize).is_some_and(|client| is_listed(
+        &client.profile,
+        step.function,
+        step.state,
+    ))
 }
 
-// The first step that is missing in the pool of this slot, 64 where none is. By slot, not by step: a pool is handed over 8 times and not 64 times.
-pub fn first_missing_in(
-    profile: Profile,
-    slot: usize,
-    steps: [Step; MOST_STEPS],
-    count: usize,
-) -> usize
-    ensures { result ≡ first_from most_steps (is_missing profile slot) 0 (take count steps) }
+// The first step of which 11 does not hold.
+pub fn first_missing(slots: &[Client; SLOTS], steps: &[Step]) -> Option<usize>
+    ensures { result ≡ position (λ s. not (is_in_pool slots.now s)) steps.now }
 {
-    let mut i: usize = 0;
-    while i < MOST_STEPS {
-        if i >= count {
-            return MOST_STEPS;
-        }
-        let step = steps[i];
-        let at = step.function as usize;
-        let listed = is_listed(profile.trigger[at], profile.states[at], step.state);
-        if is_missing(step, slot, listed) {
-            return i;
-        }
-        i += 1;
-    }
-    MOST_STEPS
+    steps.iter().position(|step| !is_in_pool(slots, step))
 }
 
-// 8, 9 and 10 by slot, then 11. A slot is copied once: for its client's checks, and to look for its steps.
-pub fn first_check(slots: [Client; SLOTS], sequence: Sequence) -> u8
-    ensures { result ≡ first_failing (flat_map (client_checks (rule_of sequence.edition)) (pairs slots sequence.records) ++ flat_map (step_checks slots) (steps_of sequence)) }
+#[tactic(auto, unfolding(crate::specs::Verification::first_failing, crate::specs::Verification::of_sequence, crate::specs::Verification::ready_checks, octets::specs::Pick::pick))]
+fn is_not_ready(client: &Client, recorded: &ClientRecord) -> bool
+    ensures { result ≡ fails ready_checks (client.now, recorded.now) }
 {
-    let records = sequence.records;
-    let steps = sequence.steps;
-    let mut missing = false;
-    let mut i: usize = 0;
-    while i < SLOTS {
-        let client = slots[i];
-        let profile = client.profile;
-        let number = client_check(sequence.edition, client, records[i]);
-        if number != DONE {
-            return number;
-        }
-        missing = missing | (first_missing_in(profile, i, steps, sequence.count) < MOST_STEPS);
-        i += 1;
-    }
-    if missing {
-        return NOT_IN_POOL;
-    }
-    DONE
+    (recorded.used != 0) & (client.report != Report::Ready as u8)
+}
+
+// The lowest slot of which 12 does not hold.
+pub fn lowest_not_ready(slots: &[Client; SLOTS], sequence: &Sequence) -> Option<usize>
+    ensures { result ≡ position (fails ready_checks) (pairs slots.now sequence.now.records) }
+{
+    let mut clients = slots.iter().zip(&sequence.records);
+    clients.position(|(client, recorded)| is_not_ready(client, recorded))
 }

@@ -1,28 +1,30 @@
 // Playback: verification in its order, which step leaves at a tick, the frames of a tick, and what an answer does.
 #![tactic(auto)]
 
-ghost use Rattle.std.specs.Prelude.{◌≡◌, ◌++◌, ◌≤◌, ◌<◌, length, drop};
+ghost use Rattle.std.specs.Prelude.{◌≡◌, ◌++◌, ◌≤◌, ◌<◌, length, take, drop, unwrap_or, IfSome};
+ghost use Rattle.octets.specs.Refusals.{answer_number};
+ghost use Rattle.sequence.specs.Sequence.{length_of};
 ghost use Rattle.playback.specs.State.{blank_sent, blank_playback};
 ghost use Rattle.playback.specs.Verification.{verify_of};
-ghost use Rattle.playback.specs.Named.{named_of};
-ghost use Rattle.playback.specs.Tick.{is_late, some_late, does_stop, is_due, does_leave, next_tan, counted_playback, after_leaving, tick_of};
+ghost use Rattle.playback.specs.Tick.{is_late, some_late, does_stop, is_due, does_leave, next_tan, counted_playback, after_leaving, ticked, tick_of};
 ghost use Rattle.playback.specs.Frames.{frames_of, frame_count_of};
-ghost use Rattle.playback.specs.Answer.{is_all_done, with_answer, answered_of, has_function};
+ghost use Rattle.playback.specs.Answer.{find_answered, is_all_done, with_answer, answered, answered_of, has_function};
 ghost use Rattle.playback.specs.Promises.{Verifies, Agrees, Changes, Framing};
 ghost use Rattle.playback.specs.Cases.{Cases};
 
-use crate::named::Named;
 use arrays::more;
 use client::{Client, SLOTS};
 use message::Reply;
 use message::fields::status_number;
-use octets::numbers::{DONE, NO_MATCH, NO_STEP, NOT_READY};
+use octets::numbers::Refusal;
 use sequence::{LAST_TICK, MOST_STEPS, Sequence, Step};
 
 mod answers;
 mod buffer;
 mod checks;
 pub mod named;
+
+pub use named::first_named;
 
 // The answer to a sent step. A number that is not here counts as started.
 pub const ANSWER_NONE: u8 = 0;
@@ -32,11 +34,12 @@ pub const ANSWER_STARTED: u8 = 1;
 pub const ANSWER_DONE: u8 = 2;
 
 // What becomes of a playback at a tick or an answer.
-pub const GOES_ON: u8 = 0;
-
-pub const TO_READY: u8 = 1;
-
-pub const TO_ABORT: u8 = 2;
+#[derive(Clone, Copy, Debug, PartialEq, Eq)]
+pub enum End {
+    GoesOn,
+    ToReady,
+    ToAbort,
+}
 
 // The ticks after which a sent step must have an answer.
 const ANSWER_TICKS: u64 = 16;
@@ -60,24 +63,6 @@ pub struct Playback {
     pub commands: [Sent; MOST_STEPS],
 }
 
-// After a tick: what becomes of it, and the TAN of the last command.
-#[repr(C)]
-#[derive(Clone, Copy)]
-pub struct Ticked {
-    pub end: u8,
-    pub tan: u8,
-    pub playback: Playback,
-}
-
-// After an answer: whether it matched, and what becomes of it.
-#[repr(C)]
-#[derive(Clone, Copy)]
-pub struct Answered {
-    pub number: u8,
-    pub end: u8,
-    pub playback: Playback,
-}
-
 // A playback that starts.
 pub fn blank_playback() -> Playback
     ensures { result ≡ blank_playback }
@@ -96,247 +81,187 @@ pub fn blank_playback() -> Playback
     }
 }
 
-// Done, or the number of the first check that does not hold.
-pub fn verify(slots: [Client; SLOTS], sequence: Sequence) -> u8
-    ensures { result ≡ verify_of slots sequence }
+// The first check that does not hold is the refusal.
+pub fn verify(slots: &[Client; SLOTS], sequence: &Sequence) -> Result<(), Refusal>
+    ensures { answer_number result ≡ verify_of slots.now sequence.now }
 {
     if sequence.count == 0 {
-        return NO_STEP;
+        return Err(Refusal::NoStep);
     }
-    let number = checks::first_check(slots, sequence);
-    if number != DONE {
-        return number;
+    checks::client_checks(slots, sequence)?;
+    if checks::first_missing(slots, sequence.steps()).is_some() {
+        return Err(Refusal::NotInPool);
     }
-    let records = sequence.records;
-    if named::lowest_not_ready(slots, records) < SLOTS {
-        return NOT_READY;
+    if checks::lowest_not_ready(slots, sequence).is_some() {
+        return Err(Refusal::NotReady);
     }
-    DONE
-}
-
-// The same with its slot and its step.
-pub fn first_named(slots: [Client; SLOTS], sequence: Sequence) -> Named
-    ensures { result ≡ named_of slots sequence }
-{
-    let number = verify(slots, sequence);
-    named::named_by(number, slots, sequence)
+    Ok(())
 }
 
 // ---- a tick
 
-fn wide(x: u32) -> u64
-    ensures { (result ≡ x) × (result < 4294967296) }
+fn is_late(sent: &Sent, ticks: u32) -> bool
+    ensures { result ≡ is_late ticks sent.now }
 {
-    x as u64
+    (sent.answer == ANSWER_NONE) & (u64::from(sent.left) + ANSWER_TICKS <= u64::from(ticks))
 }
 
-fn is_late(c: Sent, ticks: u32) -> bool
-    ensures { result ≡ is_late ticks c }
+fn is_due(step: &Step, ticks: u32, distance: u32) -> bool
+    ensures { result ≡ is_due step.now ticks distance }
 {
-    (c.answer == ANSWER_NONE) & (wide(c.left) + ANSWER_TICKS <= wide(ticks))
-}
-
-fn some_late(commands: [Sent; MOST_STEPS], sent: usize, ticks: u32) -> bool
-    ensures { result ≡ some_late ticks sent commands }
-{
-    let mut i: usize = 0;
-    while i < MOST_STEPS {
-        if i >= sent {
-            return false;
-        }
-        if is_late(commands[i], ticks) {
-            return true;
-        }
-        i += 1;
-    }
-    false
-}
-
-fn is_due(s: Step, ticks: u32, distance: u32) -> bool
-    ensures { result ≡ is_due s ticks distance }
-{
-    ((s.distance == 0) & (s.mark <= ticks)) | ((s.distance != 0) & (s.mark <= distance))
-}
-
-fn next_tan(tan: u8) -> u8
-    ensures { result ≡ next_tan tan }
-{
-    if tan >= 255 {
-        return 0;
-    }
-    tan + 1
+    ((step.distance == 0) & (step.mark <= ticks)) | ((step.distance != 0) & (step.mark <= distance))
 }
 
 impl Playback {
+    // What has left, oldest first.
+    fn left(&self) -> &[Sent]
+        ensures { result.now ≡ take self.now.sent self.now.commands }
+    {
+        &self.commands[..self.sent.min(MOST_STEPS)]
+    }
+
     // The tick and its millimetres are counted.
-    fn counted(mut self, mm: u32) -> Playback
-        ensures { result ≡ counted_playback self mm }
+    #[tactic(auto, unfolding(crate::specs::Tick::counted_playback))]
+    fn count(&mut self, mm: u32)
+        ensures { self.new ≡ counted_playback self.old mm }
     {
         self.ticks = more(self.ticks, 1);
         self.distance = more(self.distance, mm);
-        self
     }
 
-    fn does_stop(self) -> bool
-        ensures { result ≡ does_stop self }
+    #[tactic(auto, unfolding(crate::specs::Tick::some_late))]
+    fn some_late(&self) -> bool
+        ensures { result ≡ some_late self.now.ticks self.now.sent self.now.commands }
     {
-        let commands = self.commands;
-        (self.ticks >= LAST_TICK) | some_late(commands, self.sent, self.ticks)
+        self.left().iter().any(|sent| is_late(sent, self.ticks))
     }
 
-    fn does_leave(self, steps: [Step; MOST_STEPS], count: usize) -> bool
-        ensures { result ≡ does_leave self steps count }
+    #[tactic(auto, unfolding(crate::specs::Tick::does_stop))]
+    fn does_stop(&self) -> bool
+        ensures { result ≡ does_stop self.now }
     {
-        let next = self.sent;
-        if next >= MOST_STEPS {
-            return false;
+        (self.ticks >= LAST_TICK) | self.some_late()
+    }
+
+    // There is a next step, and it is due.
+    fn does_leave(&self, sequence: &Sequence) -> bool
+        ensures { result ≡ does_leave self.now sequence.now.steps (length_of sequence.now) }
+    {
+        match sequence.steps().get(self.sent) {
+            Some(step) => is_due(step, self.ticks, self.distance),
+            None => false,
         }
-        (next < count) & is_due(steps[next], self.ticks, self.distance)
     }
 
     // The next step leaves with this TAN.
-    fn leave(mut self, tan: u8) -> Playback
-        requires { self.sent < 64 }
-        ensures { result ≡ after_leaving self tan }
+    #[tactic(auto, unfolding(crate::specs::Tick::after_leaving))]
+    fn leave(&mut self, tan: u8)
+        requires { self.old.sent < 64 }
+        ensures { self.new ≡ after_leaving self.old tan }
     {
-        let next = self.sent;
-        self.commands[next] = Sent {
+        self.commands[self.sent] = Sent {
             tan,
             answer: ANSWER_NONE,
             left: self.ticks,
         };
-        self.sent = next + 1;
-        self
+        self.sent += 1;
     }
 
-    // A tick, of so many millimetres, after a last command with this TAN.
-    pub fn tick(self, sequence: Sequence, tan: u8, mm: u32) -> Ticked
-        ensures { result ≡ tick_of self sequence tan mm }
+    // A tick, of so many millimetres. The TAN is that of the last command.
+    pub fn tick(&mut self, sequence: &Sequence, tan: &mut u8, mm: u32) -> End
+        ensures { ticked result tan.new self.new ≡ tick_of self.old sequence.now tan.old mm }
     {
-        let playback = self.counted(mm);
-        if playback.does_stop() {
-            return Ticked {
-                end: TO_ABORT,
-                tan,
-                playback,
-            };
+        self.count(mm);
+        if self.does_stop() {
+            return End::ToAbort;
         }
-        let steps = sequence.steps;
-        if !playback.does_leave(steps, sequence.len()) {
-            return Ticked {
-                end: GOES_ON,
-                tan,
-                playback,
-            };
+        if self.does_leave(sequence) {
+            *tan = next_tan(*tan);
+            self.leave(*tan);
         }
-        let next = next_tan(tan);
-        Ticked {
-            end: GOES_ON,
-            tan: next,
-            playback: playback.leave(next),
-        }
+        End::GoesOn
     }
+}
+
+#[tactic(auto, unfolding(crate::specs::Tick::next_tan, octets::specs::Pick::pick))]
+fn next_tan(tan: u8) -> u8
+    ensures { result ≡ next_tan tan }
+{
+    tan.wrapping_add(1)
 }
 
 // ---- the frames of a tick
 
 // The frames of the steps that are written at the playback's tick, 576 bytes of the lent buffer; how many they are.
-pub fn frames(playback: Playback, sequence: Sequence, out: &mut [u8]) -> u32
+pub fn frames(playback: &Playback, sequence: &Sequence, out: &mut [u8]) -> u32
     requires { 576 ≤ length out.old }
-    ensures value { result ≡ frame_count_of playback.ticks playback.sent playback.commands }
-    ensures out_after { out.new ≡ frames_of playback sequence.steps ++ drop 576 out.old }
+    ensures value { result ≡ frame_count_of playback.now.ticks playback.now.sent playback.now.commands }
+    ensures out_after { out.new ≡ frames_of playback.now sequence.now.steps ++ drop 576 out.old }
 {
-    let commands = playback.commands;
-    let steps = sequence.steps;
-    let mut filled = [0u8; 576];
-    let count = buffer::fill(playback.ticks, commands, playback.sent, steps, &mut filled);
-    octets::put_bytes(out, 0, &filled);
-    count
+    buffer::fill(
+        playback.ticks,
+        playback.left(),
+        &sequence.steps,
+        &mut out[..576],
+    )
 }
 
 // ---- an answer
 
 impl Playback {
-    fn is_all_done(self, count: usize) -> bool
-        ensures { result ≡ is_all_done self count }
+    #[tactic(auto, unfolding(crate::specs::Answer::is_all_done, crate::specs::Answer::some_undone))]
+    fn is_all_done(&self, count: usize) -> bool
+        ensures { result ≡ is_all_done self.now count }
     {
-        let commands = self.commands;
-        (count <= self.sent) & !answers::some_undone(commands, self.sent)
+        (count <= self.sent) & !answers::some_undone(self.left())
     }
 
-    fn with_answer(mut self, i: usize, answer: u8) -> Playback
+    #[tactic(auto, unfolding(crate::specs::Answer::with_answer))]
+    fn set_answer(&mut self, i: usize, answer: u8)
         requires { i < 64 }
-        ensures { result ≡ with_answer self i answer }
+        ensures { self.new ≡ with_answer self.old i answer }
     {
-        let mut c = self.commands[i];
-        c.answer = answer;
-        self.commands[i] = c;
-        self
+        self.commands[i].answer = answer;
     }
 
-    // E.7: the client of a slot answers a command.
-    pub fn answer(self, sequence: Sequence, slot: u8, reply: Reply) -> Answered
-        ensures { result ≡ answered_of self sequence slot reply }
+    // The sent step that an answer of this slot matches, by its number.
+    fn matched(&self, sequence: &Sequence, slot: u8, reply: Reply) -> Option<usize>
+        ensures number { unwrap_or result 64 ≡ find_answered sequence.now.steps self.now.commands self.now.sent slot reply.tan reply.function reply.state }
+        ensures within { IfSome result (λ i. i < 64) }
     {
-        let steps = sequence.steps;
-        let commands = self.commands;
-        let i = answers::find(
-            steps,
-            commands,
-            self.sent,
-            slot,
-            reply.tan,
-            reply.function,
-            reply.state,
-        );
-        if i >= MOST_STEPS {
-            return Answered {
-                number: NO_MATCH,
-                end: GOES_ON,
-                playback: self,
-            };
+        answers::find(&sequence.steps, self.left(), slot, reply)
+    }
+
+    // E.7: the client of a slot answers a command. An answer that matches none is refused.
+    pub fn answer(&mut self, sequence: &Sequence, slot: u8, reply: Reply) -> Result<End, Refusal>
+        ensures { answered result self.new ≡ answered_of self.old sequence.now slot reply }
+    {
+        let Some(i) = self.matched(sequence, slot, reply) else {
+            return Err(Refusal::NoMatch);
+        };
+        if self.commands[i].answer == ANSWER_DONE {
+            return Ok(End::GoesOn);
         }
-        let c = self.commands[i];
-        if c.answer == ANSWER_DONE {
-            return Answered {
-                number: DONE,
-                end: GOES_ON,
-                playback: self,
-            };
-        }
-        let given = reply.status;
-        let status = status_number(given);
+        let status = status_number(reply.status);
         if answers::is_error(status, reply.error) {
-            return Answered {
-                number: DONE,
-                end: TO_ABORT,
-                playback: self,
-            };
+            return Ok(End::ToAbort);
         }
-        let playback = self.with_answer(i, answers::answer_from(status));
-        if playback.is_all_done(sequence.len()) {
-            return Answered {
-                number: DONE,
-                end: TO_READY,
-                playback,
-            };
+        self.set_answer(i, answers::answer_from(status));
+        if self.is_all_done(sequence.len()) {
+            return Ok(End::ToReady);
         }
-        Answered {
-            number: DONE,
-            end: GOES_ON,
-            playback,
-        }
+        Ok(End::GoesOn)
     }
 }
 
 // ---- an E.4 of status 11 in playback
 
 // Some step of the sequence is this slot's function.
-pub fn has_function(sequence: Sequence, slot: u8, function: u8) -> bool
-    ensures { result ≡ has_function sequence slot function }
+#[tactic(auto, unfolding(crate::specs::Answer::has_function))]
+pub fn has_function(sequence: &Sequence, slot: u8, function: u8) -> bool
+    ensures { result ≡ has_function sequence.now slot function }
 {
-    let steps = sequence.steps;
-    answers::some_function(steps, sequence.count, slot, function)
+    answers::some_function(sequence.steps(), slot, function)
 }
 
 // What holds of the definitions that the contracts above cite.

@@ -1,14 +1,15 @@
 // The first check of a start that does not hold, with its slot and its step: for the screen.
-ghost use Rattle.std.specs.Prelude.{◌≡◌, get_or, take};
+ghost use Rattle.std.specs.Prelude.{◌≡◌, get_or, position};
 ghost use Rattle.sequence.specs.Sequence.{blank_step};
-ghost use Rattle.playback.specs.Verification.{rule_of, client_checks, ready_checks};
-ghost use Rattle.playback.specs.Named.{lowest_slot, first_missing, named_by};
+ghost use Rattle.playback.specs.Pairs.{pairs};
+ghost use Rattle.playback.specs.Verification.{rule_of, client_checks};
+ghost use Rattle.playback.specs.Named.{fails, named_of};
 
-use crate::checks::{client_check, first_missing_in};
-use arrays::at_most;
-use client::{Client, ClientRecord, READY, SLOTS};
-use octets::numbers::{DONE, NOT_ENABLED, NOT_IN_POOL, NOT_READY};
-use sequence::{MOST_STEPS, Sequence, Step};
+use crate::checks::{client_check, first_missing, lowest_not_ready};
+use crate::verify;
+use client::{Client, SLOTS};
+use octets::numbers::{DONE, Refusal};
+use sequence::{MOST_STEPS, Sequence};
 
 // Of the numbers that a start gives, slot is that of 8, 9, 10, 11 and 12, step that of 11; else they are 0.
 #[repr(C)]
@@ -19,89 +20,59 @@ pub struct Named {
     pub step: usize,
 }
 
-// The lowest slot of which 8, 9 or 10 does not hold, 8 where there is none.
-fn lowest_failing(edition: u32, slots: [Client; SLOTS], records: [ClientRecord; SLOTS]) -> usize
-    ensures { result ≡ lowest_slot (client_checks (rule_of edition)) slots records }
+// The lowest slot of which 8, 9 or 10 does not hold.
+fn lowest_failing(slots: &[Client; SLOTS], sequence: &Sequence) -> Option<usize>
+    ensures { result ≡ position (fails (client_checks (rule_of sequence.now.edition))) (pairs slots.now sequence.now.records) }
 {
-    let mut i: usize = 0;
-    while i < SLOTS {
-        if client_check(edition, slots[i], records[i]) != DONE {
-            return i;
-        }
-        i += 1;
-    }
-    SLOTS
+    let mut clients = slots.iter().zip(&sequence.records);
+    clients.position(|(client, recorded)| client_check(sequence.edition, client, recorded).is_err())
 }
 
-// The lowest slot of which 12 does not hold, 8 where there is none.
-pub fn lowest_not_ready(slots: [Client; SLOTS], records: [ClientRecord; SLOTS]) -> usize
-    ensures { result ≡ lowest_slot ready_checks slots records }
+// The slot of a step, 0 past the last.
+fn slot_of(sequence: &Sequence, i: usize) -> usize
+    ensures { result ≡ (get_or sequence.now.steps i blank_step).slot }
 {
-    let mut i: usize = 0;
-    while i < SLOTS {
-        if (records[i].used != 0) & (slots[i].report != READY) {
-            return i;
-        }
-        i += 1;
+    match sequence.steps.get(i) {
+        Some(step) => step.slot as usize,
+        None => 0,
     }
-    SLOTS
 }
 
-// The first step of which 11 does not hold, 64 where there is none.
-fn first_missing(slots: [Client; SLOTS], steps: [Step; MOST_STEPS], count: usize) -> usize
-    ensures { result ≡ first_missing slots (take count steps) }
+// Done, or the first check that does not hold, with its slot and its step.
+pub fn first_named(slots: &[Client; SLOTS], sequence: &Sequence) -> Named
+    ensures { result ≡ named_of slots.now sequence.now }
 {
-    let mut first: usize = MOST_STEPS;
-    let mut i: usize = 0;
-    while i < SLOTS {
-        let client = slots[i];
-        let profile = client.profile;
-        first = at_most(first, first_missing_in(profile, i, steps, count));
-        i += 1;
-    }
-    first
-}
-
-fn slot_of(steps: [Step; MOST_STEPS], i: usize) -> usize
-    ensures { result ≡ (get_or steps i blank_step).slot }
-{
-    if i >= MOST_STEPS {
-        return 0;
-    }
-    let step = steps[i];
-    step.slot as usize
-}
-
-pub fn named_by(number: u8, slots: [Client; SLOTS], sequence: Sequence) -> Named
-    ensures { result ≡ named_by number slots sequence }
-{
-    let records = sequence.records;
-    if number == NOT_IN_POOL {
-        let steps = sequence.steps;
-        let step = first_missing(slots, steps, sequence.count);
+    let Err(why) = verify(slots, sequence) else {
         return Named {
-            number,
-            slot: slot_of(steps, step),
-            step,
-        };
-    }
-    if number == NOT_READY {
-        return Named {
-            number,
-            slot: lowest_not_ready(slots, records),
+            number: DONE,
+            slot: 0,
             step: 0,
         };
-    }
-    if number >= NOT_ENABLED {
-        return Named {
+    };
+    let number = why.number();
+    match why {
+        Refusal::NotInPool => {
+            let step = first_missing(slots, sequence.steps()).unwrap_or(MOST_STEPS);
+            Named {
+                number,
+                slot: slot_of(sequence, step),
+                step,
+            }
+        }
+        Refusal::NotReady => Named {
             number,
-            slot: lowest_failing(sequence.edition, slots, records),
+            slot: lowest_not_ready(slots, sequence).unwrap_or(SLOTS),
             step: 0,
-        };
-    }
-    Named {
-        number,
-        slot: 0,
-        step: 0,
+        },
+        Refusal::NotEnabled | Refusal::NameDiffers | Refusal::LabelDiffers => Named {
+            number,
+            slot: lowest_failing(slots, sequence).unwrap_or(SLOTS),
+            step: 0,
+        },
+        _ => Named {
+            number,
+            slot: 0,
+            step: 0,
+        },
     }
 }

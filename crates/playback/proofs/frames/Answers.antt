@@ -1,11 +1,11 @@
--- `playback::frames` meets its contract: the whole buffer is copied.
-use mathlib.Core.Path.{◌∙◌}
-use Rattle.playback.specs.Frames.{frames_of}
-use Rattle.playback.proofs.Fill.{length_filled, copied}
+-- `playback::frames` meets its contract: the first 576 bytes are filled, and those past them stay.
+use Rattle.playback.specs.Frames.{filled_of, frame_count_of, frames_of}
 use Rattle.playback.proofs.frames.Goals as goal
 
+pub returns-clause-value : goal.returns-clause-value
+unfolding frame_count_of
+returns-clause-value c = rw (c.fill.ensures.value, c.left.ensures)
+
 pub returns-clause-out_after : goal.returns-clause-out_after
-unfolding frames_of
-returns-clause-out_after c =
-    let f = c.fill-count.ensures.out_after in
-    c.put_bytes.ensures ∙ copied _ _ _ 576 f (length_filled _ _ _ _) c.requires
+unfolding filled_of frames_of
+returns-clause-out_after c = rw (c.fill.ensures.out_after, c.left.ensures)

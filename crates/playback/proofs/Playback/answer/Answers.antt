@@ -1,26 +1,28 @@
 -- `playback::Playback::answer` meets its contract: each test decides one choice.
-use borrow.Author.Tests.{eq-eqb, ne_eqb, le-leb, lt-leb}
+use borrow.Author.Tests.{eq-eqb, ne_eqb, lt-leb}
 use Rattle.octets.specs.Pick.{pick}
 use Rattle.octets.proofs.Tests.{said}
 use Rattle.playback.specs.Answer.{answered_of}
 use Rattle.playback.proofs.Playback.answer.Goals as goal
 
-pub returns-then-i-ge-MOST_STEPS : goal.returns-then-i-ge-MOST_STEPS
+pub returns-in_default : goal.returns-in_default
 unfolding pick answered_of
-returns-then-i-ge-MOST_STEPS c = rw (← c.find-i.ensures, le-leb _ _ c.if-i-ge-MOST_STEPS.true)
+returns-in_default c = rw (← c.in_default.ensures.number)
 
-pub returns-then-c-eq-ANSWER_DONE : goal.returns-then-c-eq-ANSWER_DONE
+pub returns-then-self-i-eq-ANSWER_DONE : goal.returns-then-self-i-eq-ANSWER_DONE
 unfolding pick answered_of
-returns-then-c-eq-ANSWER_DONE c =
-    rw (← c.find-i.ensures, lt-leb _ _ c.if-i-ge-MOST_STEPS.false, eq-eqb _ _ c.if-c-eq-ANSWER_DONE.true)
+returns-then-self-i-eq-ANSWER_DONE c =
+    let i = c.in-Some.ensures in
+    rw (← i.number, lt-leb _ _ i.within, eq-eqb _ _ c.if-self-i-eq-ANSWER_DONE.true)
 
 pub returns-then-is_error : goal.returns-then-is_error
 unfolding pick answered_of
 returns-then-is_error c =
+    let i = c.in-Some.ensures in
     rw (
-      ← c.find-i.ensures,
-      lt-leb _ _ c.if-i-ge-MOST_STEPS.false,
-      ne_eqb _ _ c.if-c-eq-ANSWER_DONE.false,
+      ← i.number,
+      lt-leb _ _ i.within,
+      ne_eqb _ _ c.if-self-i-eq-ANSWER_DONE.false,
       ← c.status_number-status.ensures,
       said _ _ _ c.is_error.ensures c.if-is_error.true,
     )
@@ -28,14 +30,15 @@ returns-then-is_error c =
 pub returns-then-is_all_done : goal.returns-then-is_all_done
 unfolding pick answered_of
 returns-then-is_all_done c =
+    let i = c.in-Some.ensures in
     rw (
-      ← c.find-i.ensures,
-      lt-leb _ _ c.if-i-ge-MOST_STEPS.false,
-      ne_eqb _ _ c.if-c-eq-ANSWER_DONE.false,
+      ← i.number,
+      lt-leb _ _ i.within,
+      ne_eqb _ _ c.if-self-i-eq-ANSWER_DONE.false,
       ← c.status_number-status.ensures,
       said _ _ _ c.is_error.ensures c.if-is_error.false,
       ← c.answer_from.ensures,
-      ← c.with_answer-playback.ensures,
+      ← c.set_answer.ensures,
       ← c.len.ensures,
       said _ _ _ c.is_all_done.ensures c.if-is_all_done.true,
     )
@@ -43,14 +46,15 @@ returns-then-is_all_done c =
 pub returns : goal.returns
 unfolding pick answered_of
 returns c =
+    let i = c.in-Some.ensures in
     rw (
-      ← c.find-i.ensures,
-      lt-leb _ _ c.if-i-ge-MOST_STEPS.false,
-      ne_eqb _ _ c.if-c-eq-ANSWER_DONE.false,
+      ← i.number,
+      lt-leb _ _ i.within,
+      ne_eqb _ _ c.if-self-i-eq-ANSWER_DONE.false,
       ← c.status_number-status.ensures,
       said _ _ _ c.is_error.ensures c.if-is_error.false,
       ← c.answer_from.ensures,
-      ← c.with_answer-playback.ensures,
+      ← c.set_answer.ensures,
       ← c.len.ensures,
       said _ _ _ c.is_all_done.ensures c.if-is_all_done.false,
     )

@@ -7,29 +7,23 @@ use Rattle.playback.proofs.Playback.tick.Goals as goal
 
 pub returns-then-does_stop : goal.returns-then-does_stop
 unfolding pick tick_of
-returns-then-does_stop c = rw (← c.counted-playback.ensures, said _ _ _ c.does_stop.ensures c.if-does_stop.true)
-
-pub returns-then-not-does_leave : goal.returns-then-not-does_leave
-unfolding pick tick_of
-returns-then-not-does_leave c =
-    rw (
-      ← c.counted-playback.ensures,
-      said _ _ _ c.does_stop.ensures c.if-does_stop.false,
-      ← c.len.ensures,
-      said _ _ _ c.does_leave.ensures c.if-not-does_leave.true,
-    )
+returns-then-does_stop c = rw (← c.count.ensures, said _ _ _ c.does_stop.ensures c.if-does_stop.true)
 
 pub leave-requires : goal.leave-requires
-leave-requires c = leaves_within _ _ _ (said _ _ _ c.does_leave.ensures c.if-not-does_leave.false)
+leave-requires c = leaves_within _ _ _ (said _ _ _ c.does_leave.ensures c.if-does_leave.true)
 
-pub returns : goal.returns
+pub returns-then-does_leave : goal.returns-then-does_leave
 unfolding pick tick_of
-returns c =
+returns-then-does_leave c =
     rw (
       c.leave.ensures,
-      c.next_tan-next.ensures,
-      ← c.counted-playback.ensures,
+      c.next_tan.ensures,
+      ← c.count.ensures,
       said _ _ _ c.does_stop.ensures c.if-does_stop.false,
-      ← c.len.ensures,
-      said _ _ _ c.does_leave.ensures c.if-not-does_leave.false,
+      said _ _ _ c.does_leave.ensures c.if-does_leave.true,
     )
+
+pub returns-else-does_leave : goal.returns-else-does_leave
+unfolding pick tick_of
+returns-else-does_leave c =
+    rw (← c.count.ensures, said _ _ _ c.does_stop.ensures c.if-does_stop.false, said _ _ _ c.does_leave.ensures c.if-does_leave.false)

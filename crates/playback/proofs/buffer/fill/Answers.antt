@@ -1,50 +1,28 @@
--- `playback::buffer::fill` meets its contract: the buffer holds the frames of the steps looked at so far, and zeros after them.
-use borrow.Author.Rules.{rules}
-use mathlib.Core.Path.{◌≡◌, ap, ◌∙◌}
-use Prim.Native.Nat.{ℕ, ◌+◌}
+-- `playback::buffer::fill` meets its contract: the buffer holds the frames so far, and zeros after them.
+use mathlib.Core.Path.{◌≡◌, sym, ap, ◌∙◌}
+use Prim.Native.Nat.{ℕ}
 use native.Mathlib.Omega.{arith}
-use Rattle.octets.proofs.Tests.{said}
-use Rattle.playback.proofs.Fill.{none, none_counted, skips, skips_count, counts, stores, full, full_count}
+use borrow.Author.Rules.{rules}
+use lib.ListN.{replicate}
+use Rattle.std.specs.Slice.Iter.{iter_rest}
+use Rattle.std.specs.Iterator.Adapters.{zip_first, zip_second}
+use Rattle.std.proofs.lemmas.Slice.Zip.{Zip-more}
+use Rattle.playback.specs.Frames.{is_written}
+use Rattle.playback.proofs.Fill.{starts, stores}
 use Rattle.playback.proofs.buffer.fill.Goals as goal
 
-pub loop-i-init : goal.loop-i-init
-loop-i-init c = record { all_steps = search rules; all_sent = search rules; within = search rules; early = search rules; few = search rules; count = none_counted _ _; bytes = c.requires ∙ none _ _ _ }
+pub loop-step-init : goal.loop-step-init
+loop-step-init c =
+    let a = c.args in
+    let h = c.requires in
+    let e : c.fill.new.self ≡ replicate 576 0 = c.fill.ensures.after (λ y e. e) ∙ ap (λ (n : ℕ). replicate n 0) h.room in
+    let x : iter_rest (zip_first c.into_iter-step-iterator.result) ≡ a.steps.now = search rules in
+    let y : iter_rest (zip_second c.into_iter-step-iterator.result) ≡ a.left.now = search rules in
+    rw (x, y) (starts (is_written a.ticks) a.steps.now a.left.now _ e h.few (omega arith))
 
-pub returns-then-i-sent : goal.returns-then-i-sent
-returns-then-i-sent c =
-    let v = c.loop-i.invariant in
-    let q : c.loop-i.i ≡ c.args.sent = omega arith in
-    rw (← q) (record { value = v.count; out_after = v.bytes })
-
-pub loop-i-preserved-then-not-is_written : goal.loop-i-preserved-then-not-is_written
-loop-i-preserved-then-not-is_written c =
-    let v = c.loop-i.invariant in
-    let e = said _ _ _ c.is_written.ensures c.if-not-is_written.true in
-    record {
-      all_steps = v.all_steps;
-      all_sent = v.all_sent;
-      within = search rules;
-      early = search rules;
-      few = search rules;
-      count = v.count ∙ skips_count _ _ _ _ (omega arith) e;
-      bytes = v.bytes ∙ skips _ _ _ _ _ (omega arith) (omega arith) e;
-    }
-
-pub loop-i-preserved : goal.loop-i-preserved
-loop-i-preserved c =
-    let v = c.loop-i.invariant in
-    let e = said _ _ _ c.is_written.ensures c.if-not-is_written.false in
-    record {
-      all_steps = v.all_steps;
-      all_sent = v.all_sent;
-      within = search rules;
-      early = search rules;
-      few = search rules;
-      count = ap (λ (k : ℕ). k + 1) v.count ∙ counts _ _ _ _ (omega arith) e;
-      bytes = c.put_frame.ensures ∙ rw v.bytes (stores _ _ _ _ _ _ (omega arith) (omega arith) e (omega arith) _ v.count (omega arith));
-    }
-
-pub returns : goal.returns
-returns c =
-    let v = c.loop-i.invariant in
-    record { value = v.count ∙ full_count _ _ _ _ (omega arith) (omega arith); out_after = v.bytes ∙ full _ _ _ _ _ (omega arith) (omega arith) }
+pub loop-step-preserved-then-is_written : goal.loop-step-preserved-then-is_written
+loop-step-preserved-then-is_written c =
+    let a = c.args in
+    let z = Zip-more c.loop-step.step-iterator c.next.new.self c.next.result (c.in-Some.step, c.in-Some.sent) c.in-Some.is c.next.ensures.steps in
+    rw (c.put_bytes.ensures, c.frame_of.ensures)
+    (stores (is_written a.ticks) a.steps.now a.left.now _ _ _ _ _ _ (rw (z.0, z.1) at c.loop-step.invariant) (sym c.is_written.ensures ∙ c.if-is_written.true))
