@@ -1,11 +1,14 @@
 -- What a message that was read says: its kind and its values; and what it does, by the slot's number.
 use Prim.Native.Nat.{ℕ}
-use mathlib.Core.Path.{◌≡◌, ap, ◌∙◌}
+use mathlib.Core.Path.{◌≡◌, refl, ap, ◌∙◌}
 use mathlib.Core.Bool.{true, false}
 use mathlib.Core.List.{List}
 use lib.ListN.{get_or}
 use Rattle.client.specs.Clients.{no_slot}
+use Rattle.std.specs.Prelude.{Result, Ok, Err}
 use Rattle.octets.specs.Pick.{pick}
+use Rattle.octets.specs.Refusals.{answer_number}
+use Rattle.octets.specs.declared.numbers.Refusal.{Refusal}
 use Rattle.flat.specs.Flat.{reading_of}
 use Rattle.flat.specs.declared.FlatReading.{FlatReading}
 use Rattle.message.specs.declared.Execution.{Execution}
@@ -14,8 +17,8 @@ use Rattle.master.specs.declared.Master.{Master}
 use Rattle.message.specs.declared.Reply.{Reply}
 use Rattle.sequence.specs.declared.Sequence.{Sequence}
 use Rattle.playback.specs.declared.Playback.{Playback}
-use Rattle.playback.specs.declared.Answered.{Answered}
-use Rattle.playback.specs.Answer.{answered_of}
+use Rattle.playback.specs.declared.End.{End}
+use Rattle.playback.specs.Answer.{Answered, answered, answered_of}
 use Rattle.master.specs.Call.{slot_at}
 use Rattle.master.specs.States.{is_playing}
 use Rattle.master.specs.Recording.{recorded, interrupted, recording_heard, heard}
@@ -43,3 +46,8 @@ heard_recording m octet slot at e o p t = (rw (o, p, t), rw (o, p, t))
 pub answered_at :
     (p : Playback) (q : Sequence) (octet slot : ℕ) (r : Reply) (a : Answered) → octet ≡ slot → a ≡ answered_of p q octet r → a ≡ answered_of p q slot r
 answered_at p q octet slot r a same says = says ∙ ap (λ (s : ℕ). answered_of p q s r) same
+
+-- the number of a call on the playback
+pub numbered : (r : Result End Refusal) (p : Playback) → answer_number r ≡ (answered r p).number
+numbered (Ok end) p = refl
+numbered (Err why) p = refl

@@ -3,8 +3,8 @@ use Rattle.std.specs.Prelude.{ℕ, not, ◌&&◌, List, [], ◌∷◌, eqb}
 use Rattle.octets.specs.Pick.{pick}
 use Rattle.octets.specs.Numbers.{completed, too_short, wrong_state, wrong_slot, wrong_value, not_expected, no_step, not_enabled, name_differs, label_differs, not_in_pool, not_ready, no_match}
 use Rattle.client.specs.{Clients.is_enabled, declared.Client.Client}
-use Rattle.playback.specs.State.{to_ready, to_abort, blank_playback}
-use Rattle.playback.specs.{Verification.verify_of, Answer.answered_of, declared.Answered.Answered}
+use Rattle.playback.specs.State.{to_ready, to_abort, same_end, blank_playback}
+use Rattle.playback.specs.{Verification.verify_of, Answer.answered_of, Answer.Answered}
 use Rattle.master.specs.declared.Master.{Master}
 use Rattle.master.specs.Call.{Call, bare, slot_at, is_absent}
 use Rattle.master.specs.Messages.{is_abort, is_answer, reply_in, receipt_out}
@@ -51,8 +51,8 @@ unmatched state number = pick (eqb state playback) number no_match
 -- "Playback goes to ready when all steps are done; to abort on .. an error answer"
 unfoldable pub replied : Master → Answered → Master
 replied m a =
-    pick (eqb a.end to_ready) (ended m ready)
-    (pick (eqb a.end to_abort) (ended m abort)
+    pick (same_end a.end to_ready) (ended m ready)
+    (pick (same_end a.end to_abort) (ended m abort)
     (with_playback m m.tan a.playback))
 
 unfoldable pub answer_call : Master → ℕ → List ℕ → List ℕ → Call

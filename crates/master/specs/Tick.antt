@@ -6,7 +6,7 @@ use Rattle.sequence.specs.Sequence.{last_tick}
 use Rattle.recording.specs.Indication as recording
 use Rattle.recording.specs.declared.Recording.{Recording}
 use Rattle.playback.specs.Tick as playback
-use Rattle.playback.specs.{Frames.frames_of, Frames.frame_count_of, declared.Ticked.Ticked, State.goes_on}
+use Rattle.playback.specs.{Frames.frames_of, Frames.frame_count_of, Tick.Ticked, State.goes_on, State.same_end}
 use Rattle.master.specs.{declared.Master.Master, Call.Call}
 use Rattle.master.specs.States.{ready, abort, is_inactive, is_recording, is_playing, with_recording, with_playback, ended, settled}
 
@@ -20,7 +20,7 @@ recording_ticked m mm =
 unfoldable pub playback_ticked : Master → ℕ → Master
 playback_ticked m mm =
     let t : Ticked = playback.tick_of m.playback m.sequence m.tan mm in
-    pick (eqb t.end goes_on) (with_playback m t.tan t.playback) (ended m abort)
+    pick (same_end t.end goes_on) (with_playback m t.tan t.playback) (ended m abort)
 
 -- "Abort goes to ready at the first later .. tick where every enabled client's last report is abort."
 unfoldable pub ticked : Master → ℕ → Master

@@ -1,5 +1,7 @@
 // The way into a playback and out of it, E.3 and E.7.
 ghost use Rattle.std.specs.Prelude.{◌≡◌};
+ghost use Rattle.octets.specs.Refusals.{answer_number};
+ghost use Rattle.playback.specs.Answer.{answered};
 ghost use Rattle.master.specs.Call.{number_of, outcome_of, leaves_of};
 ghost use Rattle.master.specs.Playback.{start_call, abort_call, unheeded, client_abort_call, unmatched, replied, answer_call};
 
@@ -11,8 +13,8 @@ use client::Client;
 use flat::kinds::{ANSWER, CLIENT_ABORT};
 use flat::reply_from;
 use message::CLIENT;
-use octets::numbers::{DONE, NO_MATCH, NOT_EXPECTED};
-use playback::{Answered, TO_ABORT, TO_READY, blank_playback, verify};
+use octets::numbers::{DONE, NOT_EXPECTED, Refusal, number_of};
+use playback::{End, Playback, blank_playback, verify};
 
 impl Master {
     // Why a start is refused, 0 where it is not: the sequence is verified only where the state allows it.
@@ -23,9 +25,7 @@ impl Master {
         if why != DONE {
             return why;
         }
-        let slots = self.slots;
-        let sequence = self.sequence;
-        verify(slots, sequence)
+        number_of(verify(&self.slots, &self.sequence))
     }
 
     pub fn start(mut self) -> Outcome
@@ -74,18 +74,18 @@ impl Master {
     }
 
     // An answer that matches a sent step.
-    fn replied(mut self, answered: Answered) -> Master
-        ensures { result ≡ replied self answered }
+    #[tactic(auto, unfolding(crate::specs::Playback::replied, octets::specs::Pick::pick))]
+    fn replied(mut self, answer: Result<End, Refusal>, playback: Playback) -> Master
+        ensures { result ≡ replied self (answered answer playback) }
     {
-        if answered.end == TO_READY {
-            return self.ended(READY);
+        match answer {
+            Ok(End::ToReady) => self.ended(READY),
+            Ok(End::ToAbort) => self.ended(ABORT),
+            _ => {
+                self.playback = playback;
+                self
+            }
         }
-        if answered.end == TO_ABORT {
-            return self.ended(ABORT);
-        }
-        let playback = answered.playback;
-        self.playback = playback;
-        self
     }
 
     // E.7 in, E.8 out, 8 bytes.
@@ -98,10 +98,9 @@ impl Master {
         let at = at_most(slot, LAST_SLOT);
         let client = self.slots[at];
         let reply = reply_from(message.step);
-        let playback = self.playback;
-        let sequence = self.sequence;
-        let answered = playback.answer(sequence, octet(slot), reply);
-        let own = unmatched(self.state, answered.number);
+        let mut playback = self.playback;
+        let answered = playback.answer(&self.sequence, octet(slot), reply);
+        let own = unmatched(self.state, answered);
         let why = refusal(
             out.len() < 8,
             message.kind != ANSWER,
@@ -113,7 +112,7 @@ impl Master {
             return self.gives(why);
         }
         write_receipt(reply, out);
-        self.replied(answered).gives(DONE)
+        self.replied(answered, playback).gives(DONE)
     }
 }
 
@@ -128,11 +127,15 @@ fn unheeded(state: u8, client: Client) -> u8
 }
 
 // Outside playback no step counts as sent.
-fn unmatched(state: u8, number: u8) -> u8
-    ensures { result ≡ unmatched state number }
+#[tactic(auto, unfolding(crate::specs::Playback::unmatched, octets::specs::Pick::pick))]
+fn unmatched(state: u8, answer: Result<End, Refusal>) -> u8
+    ensures { result ≡ unmatched state (answer_number answer) }
 {
-    if state == PLAYBACK {
-        return number;
+    if state != PLAYBACK {
+        return Refusal::NoMatch.number();
     }
-    NO_MATCH
+    match answer {
+        Ok(_) => DONE,
+        Err(why) => why.number(),
+    }
 }

@@ -205,8 +205,6 @@ impl Master {
     pub fn verify(self) -> Named
         ensures { result ≡ verify_view self }
     {
-        let slots = self.slots;
-        let sequence = self.sequence;
-        first_named(slots, sequence)
+        first_named(&self.slots, &self.sequence)
     }
 }

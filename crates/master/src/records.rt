@@ -80,8 +80,7 @@ impl Master {
         ensures value { result ≡ gives 0 (interrupted self slot e.function).master }
         ensures out_after { out.new ≡ response_out e (interrupted self slot e.function).error out.old }
     {
-        let sequence = self.sequence;
-        if has_function(sequence, slot, e.function) {
+        if has_function(&self.sequence, slot, e.function) {
             write_response(e, 0x06, out);
             return self.ended(ABORT).gives(DONE);
         }

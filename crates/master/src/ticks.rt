@@ -6,7 +6,7 @@ ghost use Rattle.master.specs.Tick.{tick_call, recording_ticked, playback_ticked
 use crate::clients::refusal;
 use crate::{ABORT, INACTIVE, Master, Outcome, PLAYBACK, READY, RECORD, RECORD_COMPLETE};
 use octets::numbers::DONE;
-use playback::{GOES_ON, blank_playback, frames};
+use playback::{End, blank_playback, frames};
 use sequence::LAST_TICK;
 
 impl Master {
@@ -22,19 +22,20 @@ impl Master {
         self
     }
 
+    #[tactic(auto, unfolding(crate::specs::Tick::playback_ticked, octets::specs::Pick::pick))]
     fn playback_ticked(mut self, mm: u32) -> Master
         ensures { result ≡ playback_ticked self mm }
     {
-        let playback = self.playback;
-        let sequence = self.sequence;
-        let t = playback.tick(sequence, self.tan, mm);
-        if t.end != GOES_ON {
-            return self.ended(ABORT);
+        let mut playback = self.playback;
+        let mut tan = self.tan;
+        match playback.tick(&self.sequence, &mut tan, mm) {
+            End::GoesOn => {
+                self.tan = tan;
+                self.playback = playback;
+                self
+            }
+            _ => self.ended(ABORT),
         }
-        let after = t.playback;
-        self.tan = t.tan;
-        self.playback = after;
-        self
     }
 
     fn ticked(self, mm: u32) -> Master
@@ -55,12 +56,10 @@ impl Master {
         ensures value { result ≡ count_in self }
         ensures out_after { out.new ≡ frames_in self ++ drop 576 out.old }
     {
-        let sequence = self.sequence;
         if self.state != PLAYBACK {
-            return frames(blank_playback(), sequence, out);
+            return frames(&blank_playback(), &self.sequence, out);
         }
-        let playback = self.playback;
-        frames(playback, sequence, out)
+        frames(&self.playback, &self.sequence, out)
     }
 
     // Fills 576 bytes: nine to a frame, the slot and E.6.

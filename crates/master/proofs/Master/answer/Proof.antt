@@ -1,10 +1,10 @@
 -- `master::Master::answer` meets its contract: by its number, which is the call's, and by what it calls.
 use mathlib.Core.Path.{◌≡◌, refl, sym, ap, ◌∙◌}
-use Rattle.playback.specs.declared.Answered.{Answered}
+use Rattle.playback.specs.Answer.{Answered}
 use Rattle.master.specs.Call.{Call, number_of}
 use Rattle.master.specs.Playback.{unmatched, answer_call}
 use Rattle.master.proofs.Calls.{refused, done, kept, written, passed, below}
-use Rattle.master.proofs.Reading.{kind_is, step_is, answered_at}
+use Rattle.master.proofs.Reading.{kind_is, step_is, answered_at, numbered}
 use Rattle.master.proofs.Slots.{here, asked_at}
 use borrow.Author.Rules.{rules}
 use Rattle.master.proofs.Master.answer.Statement.{statement}
@@ -27,7 +27,7 @@ why c =
     let a = at_read.before.before.before.before.args in
     rw (← kind_is _ _ at_read.before.read-reading.ensures, ← step_is _ _ at_read.before.read-reading.ensures, ← at_reply_from.reply_from-reply.ensures)
     (asked_at a.self.slots a.slot _ at_at_most.before.at_most-at.ensures _ _ _ _ _ _ _ at_is_taken.is_taken.ensures
-    (λ l. at_unmatched.unmatched-own.ensures ∙ ap (λ (x : Answered). unmatched a.self.state x.number) (answered_at _ _ _ _ _ _ (here _ _ at_octet.octet.ensures l) at_answer.answer-answered.ensures))
+    (λ l. at_unmatched.unmatched-own.ensures ∙ ap (unmatched a.self.state) (numbered at_answer.answer-answered.result _) ∙ ap (λ (x : Answered). unmatched a.self.state x.number) (answered_at _ _ _ _ _ _ (here _ _ at_octet.octet.ensures l) at_answer.answer-answered.ensures))
     c.refusal-why.ensures)
 
 returns : tie.Need-returns-then-why-ne-DONE

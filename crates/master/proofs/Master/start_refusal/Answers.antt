@@ -11,4 +11,4 @@ returns-then-why-ne-DONE c = let says = c.refusal-why.ensures in says ∙ before
 pub returns : goal.returns
 unfolding start_call
 returns c =
-    c.verify.ensures ∙ own_last _ _ _ _ _ (sym c.refusal-why.ensures ∙ c.if-why-ne-DONE.false)
+    c.number_of.ensures ∙ c.verify.ensures ∙ own_last _ _ _ _ _ (sym c.refusal-why.ensures ∙ c.if-why-ne-DONE.false)
