@@ -18,7 +18,7 @@ use Rattle.sequence.specs.declared.Sequence.{Sequence}
 use Rattle.message.specs.declared.Reply.{Reply}
 use Rattle.recording.proofs.Steps.{both}
 use Rattle.playback.specs.declared.Playback.{Playback}
-use Rattle.playback.specs.declared.Answered.{Answered}
+use Rattle.playback.specs.Answer.{Answered}
 use Rattle.playback.specs.declared.Sent.{Sent}
 use Rattle.playback.specs.State.{blank_sent}
 use Rattle.playback.specs.Pairs.{pairs}

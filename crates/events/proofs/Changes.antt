@@ -23,9 +23,10 @@ use Rattle.recording.specs.Indication as indications
 use Rattle.recording.specs.Indication.{Heard}
 use Rattle.recording.proofs.Steps.{both}
 use Rattle.playback.specs.State.{goes_on, blank_playback}
+use Rattle.playback.proofs.Ends.{is_end}
 use Rattle.playback.specs.Tick as playback
 use Rattle.playback.specs.Answer.{has_function}
-use Rattle.playback.specs.declared.Ticked.{Ticked}
+use Rattle.playback.specs.Tick.{Ticked}
 use Rattle.master.specs.declared.Master.{Master}
 use Rattle.master.specs.Call.{slot_at}
 use Rattle.master.specs.Messages.{is_indication, execution_in}
@@ -249,7 +250,7 @@ module _ (m : Master) where
       let T : Master → Type 0 = Change m (tick mm out) in
       chosen_by T _ _ _ (λ i. chosen_by T _ _ _ (λ _. dropped itself i (omega arith)) (λ t. record_ticks mm out i l (leb-false last_tick _ t)))
       (λ _.
-      chosen_by T _ _ _ (λ p. chosen_by T _ _ _ (λ t. play_ticks mm out p l (eqb-true _ _ t)) (λ _. play_ticks_last mm out p))
+      chosen_by T _ _ _ (λ p. chosen_by T _ _ _ (λ t. play_ticks mm out p l (is_end _ _ t)) (λ _. play_ticks_last mm out p))
       (λ _. settled_change (tick mm out) (omega arith) m itself refl))
 
   pub replied_change : (slot : ℕ) (msg out : List ℕ) → is_playing m ≡ true → Change m (answer slot msg out) (replied m (answered m slot msg))

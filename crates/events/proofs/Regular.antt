@@ -1,7 +1,7 @@
 -- What is always so of a master that calls give: its parts are sound and tidy, slots are below 8, no more steps are sent than there are, counts are small.
 use Prim.Native.Nat.{ℕ, ◌+◌, ◌≤◌, ◌<◌}
 use mathlib.Core.Path.{◌≡◌, refl, sym, ap, ◌∙◌}
-use mathlib.Core.Bool.{Bool, true, false}
+use mathlib.Core.Bool.{Bool, true, false, true≢false}
 use native.Mathlib.Omega.{arith}
 use lib.ListN.{length}
 use borrow.Author.Tests.{eqb-true, leb-false, ltb-true, not-false}
@@ -24,13 +24,13 @@ use Rattle.recording.specs.Indication.{Heard}
 use Rattle.recording.proofs.Steps.{both}
 use Rattle.recording.proofs.Sound.{sound_blank, sound_counted, sound_heard}
 use Rattle.recording.proofs.Keeps as kept
-use Rattle.playback.specs.State.{goes_on, blank_playback}
+use Rattle.playback.specs.State.{goes_on, same_end, blank_playback}
 use Rattle.playback.specs.Tick as playback
 use Rattle.playback.specs.Answer.{with_answer, answered_of}
 use Rattle.playback.specs.Promises.{Tidy}
 use Rattle.playback.specs.declared.Playback.{Playback}
-use Rattle.playback.specs.declared.Ticked.{Ticked}
-use Rattle.playback.specs.declared.Answered.{Answered}
+use Rattle.playback.specs.Tick.{Ticked}
+use Rattle.playback.specs.Answer.{Answered}
 use Rattle.playback.proofs.Changes.{changes}
 use Rattle.playback.proofs.Verifies.{verifies}
 use Rattle.master.specs.declared.Master.{Master}
@@ -153,7 +153,7 @@ leaves p q e = omega (arith, ltb-true p.sent (length_of q) (both _ _ (sym (chang
 ticked_from : (p : Playback) (q : Sequence) (tan mm : ℕ) → tan ≤ 255 → Goes p q mm (playback.tick_of p q tan mm)
 unfolding Goes playback.tick_of playback.counted_playback playback.after_leaving
 ticked_from p q tan mm few =
-    chosen_by (Goes p q mm) _ _ _ (λ _ e. absurd (omega arith))
+    chosen_by (Goes p q mm) _ _ _ (λ _ e. absurd (true≢false (ap (same_end goes_on) (sym e))))
     (λ s. chosen_by (Goes p q mm) _ _ _ (λ _ _. record { below = keeps_on p mm s; ticks = refl; distance = refl; sent = λ h. h; tan = few })
     (λ l _. record {
       below = keeps_on p mm s;

@@ -16,7 +16,7 @@ use Rattle.recording.proofs.Steps.{both}
 use Rattle.sequence.specs.{Sequence.length_of, Editions.is_edition, declared.Sequence.Sequence}
 use Rattle.playback.specs.Answer.{answered_of}
 use Rattle.playback.specs.Verification.{verify_of}
-use Rattle.playback.specs.declared.Answered.{Answered}
+use Rattle.playback.specs.Answer.{Answered}
 use Rattle.playback.proofs.Verifies.{verifies}
 use Rattle.store.specs.Loaded.{load_number}
 use Rattle.master.specs.declared.Master.{Master}

@@ -2,13 +2,14 @@
 use Prim.Native.Nat.{ℕ, zero, suc, ◌+◌, ◌*◌, ◌-◌, ◌/◌, ◌%◌, ◌^◌, ◌<◌, min}
 use mathlib.Core.Path.{◌≡◌, refl, sym, ap, ◌∙◌}
 use mathlib.Core.Bool.{Bool, true, false, not, ◌&&◌, ◌||◌, true≢false}
-use mathlib.Core.List.{List, [], ◌∷◌}
+use mathlib.Core.List.{List}
 use native.Mathlib.Omega.{arith}
 use native.Mathlib.Nat.{pow-suc, div-one, mod-lt}
 use borrow.Author.Tests.{eqb-true, eqb-false, eq-eqb}
 use lib.Bits.{bit_and, and_step, and_shr, and_le_r, and_mask}
 use lib.Dec.{eqb}
 use lib.Pow.{pow_pos, shr-shr, field, mod-mod-pow}
+use Rattle.std.proofs.lemmas.Slice.Eq.{bytes_eq-Decides}
 use Rattle.octets.specs.Bits.{has_bit}
 use Rattle.octets.specs.declared.label.Label.{Label}
 use Rattle.octets.proofs.Tests.{pick_true, pick_false}
@@ -160,16 +161,7 @@ module _ (edition : ℕ) (s : Client) (c : ClientRecord) where
 -- ---- labels
 
 pub same : (a b : List ℕ) → same_bytes a b ≡ true → a ≡ b
-same [] [] e = refl
-same [] (y ∷ b) e = absurd (true≢false (sym e))
-same (x ∷ a) [] e = absurd (true≢false (sym e))
-same (x ∷ a) (y ∷ b) e =
-    let p = both (eqb x y) (same_bytes a b) e in
-    rw (eqb-true x y p.0, same a b p.1)
-
-alike : (a : List ℕ) → same_bytes a a ≡ true
-alike [] = refl
-alike (x ∷ a) = rw (eq-eqb x x refl, alike a)
+same a b e = (bytes_eq-Decides a b).0 e
 
 labels : (a b : Label) → same_label a b ≡ true → (a.length ≡ b.length) × (a.bytes ≡ b.bytes)
 unfolding same_label
@@ -179,7 +171,7 @@ labels a b e =
 
 labels_only : (a b : Label) → a.length ≡ b.length → a.bytes ≡ b.bytes → same_label a b ≡ true
 unfolding same_label
-labels_only a b e f = rw (eq-eqb a.length b.length e, f, alike b.bytes)
+labels_only a b e f = rw (eq-eqb a.length b.length e, (bytes_eq-Decides a.bytes b.bytes).1 f)
 
 pub agrees : Agrees
 agrees = record { names = names; names_only = names_only; labels = labels; labels_only = labels_only }

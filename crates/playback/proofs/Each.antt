@@ -1,5 +1,5 @@
 -- Checks of each element of a list: where the list of them all fails, it fails with the first element of which one does.
-use Prim.Native.Nat.{ℕ, zero, suc, ◌≤◌, ◌<◌}
+use Prim.Native.Nat.{ℕ, zero, suc, ◌<◌}
 use mathlib.Core.Path.{◌≡◌, refl, sym, subst, ◌∙◌}
 use mathlib.Core.Bool.{Bool, true, false, not, ◌||◌, true≢false}
 use mathlib.Core.Logic.{inl, inr}
@@ -7,10 +7,10 @@ use mathlib.Core.List.{List, [], ◌∷◌, flat_map}
 use native.Mathlib.Omega.{arith}
 use lib.Dec.{eqb}
 use lib.ListN.{length, get_or}
-use borrow.Author.Tests.{eq-eqb, eqb-true, lt-ltb, le-ltb}
+use borrow.Author.Tests.{eq-eqb, eqb-true}
 use Rattle.arrays.specs.Arrays.{some, first_from}
 use Rattle.arrays.proofs.Every.{Found, first_is}
-use Rattle.arrays.proofs.First.{first_before, first_some}
+use Rattle.arrays.proofs.First.{first_before}
 use Rattle.playback.specs.Verification.{Check, first_failing}
 use Rattle.playback.proofs.Failing.{Numbered, found, passed}
 
@@ -40,16 +40,6 @@ module _ {X : Type 0} (f : X → List Check) (numbered : (x : X) → Numbered (f
       either true h = absurd (true≢false h)
       either false h = (refl, h)
 
-  -- where all hold, none fails
-  all_hold : (l : List X) → first_failing (flat_map f l) ≡ 0 → some failing l ≡ false
-  unfolding flat_map
-  all_hold [] h = refl
-  all_hold (x ∷ l) h = go (failing x) refl (λ k. all_hold l k)
-    where
-      go : (b : Bool) → failing x ≡ b → (first_failing (flat_map f l) ≡ 0 → some failing l ≡ false) → (b || some failing l) ≡ false
-      go true e k = absurd (not_holding x e (sym (found (f x) (flat_map f l) (not_holding x e)) ∙ h))
-      go false e k = k (sym (passed (f x) (flat_map f l) (numbered x) (holding x e)) ∙ h)
-
   -- the first that fails decides
   decides : (l : List X) (k : ℕ) (d : X) → k < length l → ((j : ℕ) → j < k → first_failing (f (get_or l j d)) ≡ 0) → (first_failing (f (get_or l k d)) ≡ 0 → ⊥)
       → first_failing (f (get_or l k d)) ≡ first_failing (flat_map f l)
@@ -73,12 +63,3 @@ module _ {X : Type 0} (f : X → List Check) (numbered : (x : X) → Numbered (f
           let z : first_from none failing 0 l ≡ k = omega arith in
           let before : (j : ℕ) → j < k → first_failing (f (get_or l j d)) ≡ 0 = λ j h. holding (get_or l j d) (first_before none failing 0 l d j (omega arith) (omega arith)) in
           subst (First l d) (sym z) (s, decides l k d s before (not_holding (get_or l k d) t), before)
-
-  -- there is one below `none`, or all hold
-  pub some_fails : (none : ℕ) (l : List X) → length l ≤ none → first_from none (λ x. not (eqb (first_failing (f x)) 0)) 0 l < none → first_failing (flat_map f l) ≡ 0 → ⊥
-  unfolding failing
-  some_fails none l h k e = true≢false (sym (lt-ltb _ none k) ∙ first_some none failing 0 l (omega arith) ∙ all_hold l e)
-
-  pub no_fails : (none : ℕ) (l : List X) → length l ≤ none → none ≤ first_from none (λ x. not (eqb (first_failing (f x)) 0)) 0 l → first_failing (flat_map f l) ≡ 0
-  unfolding failing
-  no_fails none l h k = none_fails l (sym (first_some none failing 0 l (omega arith)) ∙ le-ltb _ none k)

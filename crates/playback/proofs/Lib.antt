@@ -3,6 +3,7 @@ pub mod Positions
 pub mod Failing
 pub mod Each
 pub mod Fill
+pub mod Ends
 pub mod Leaves
 pub mod Answering
 pub mod Verifies

@@ -1,12 +1,13 @@
 // What an answer says, and which step a message is for.
 ghost use Rattle.std.specs.Prelude.{◌≡◌, ◌<◌, length, position};
+ghost use Rattle.message.specs.Fields.{status_number};
 ghost use Rattle.arrays.specs.Arrays.{some};
 ghost use Rattle.playback.specs.Pairs.{pairs};
 ghost use Rattle.playback.specs.State.{is_undone};
 ghost use Rattle.playback.specs.Answer.{is_answer_of, is_error, answer_from, is_function_of};
 
 use crate::{ANSWER_DONE, ANSWER_STARTED, Sent};
-use message::Reply;
+use message::{Reply, Status};
 use sequence::Step;
 
 fn is_answer_of(step: &Step, sent: &Sent, slot: u8, reply: Reply) -> bool
@@ -28,19 +29,20 @@ pub fn find(steps: &[Step], left: &[Sent], slot: u8, reply: Reply) -> Option<usi
         .position(|(step, sent)| is_answer_of(step, sent, slot, reply))
 }
 
-pub fn is_error(status: u8, error: u8) -> bool
-    ensures { result ≡ is_error status error }
+pub fn is_error(reply: Reply) -> bool
+    ensures { result ≡ is_error (status_number reply.status) reply.error }
 {
-    (status >= 0b11) | (error != 0)
+    matches!(reply.status, Status::Failed) | (reply.error != 0)
 }
 
-pub fn answer_from(status: u8) -> u8
-    ensures { result ≡ answer_from status }
+#[tactic(auto, unfolding(crate::specs::Answer::answer_from, octets::specs::Pick::pick))]
+pub fn answer_from(status: Status) -> u8
+    ensures { result ≡ answer_from (status_number status) }
 {
-    if status == 0b01 {
-        return ANSWER_STARTED;
+    match status {
+        Status::Started => ANSWER_STARTED,
+        Status::AtOnce | Status::Done | Status::Failed => ANSWER_DONE,
     }
-    ANSWER_DONE
 }
 
 fn is_undone(sent: &Sent) -> bool

@@ -24,6 +24,7 @@ fn agree_under(mask: u64, a: u64, b: u64) -> bool
 }
 
 // The master NAMEs agree under the mask where each is its client's own NAME, and else in all 64 bits.
+#[tactic(auto, unfolding(octets::specs::Pick::pick))]
 fn masters_agree(owned: bool, mask: u64, loaded: u64, recorded: u64) -> bool
     ensures { result ≡ masters_agree owned mask loaded recorded }
 {
@@ -43,6 +44,7 @@ fn names_agree(client: &Client, recorded: &ClientRecord) -> bool
 }
 
 // By the rule of an edition: in edition 2 the identity numbers agree too, no matter what the mask says.
+#[tactic(auto, unfolding(crate::specs::Verification::rule_of))]
 fn agree_by(edition: u32, client: &Client, recorded: &ClientRecord) -> bool
     ensures { result ≡ rule_of edition client.now recorded.now }
 {

@@ -15,7 +15,6 @@ ghost use Rattle.playback.specs.Cases.{Cases};
 use arrays::more;
 use client::{Client, SLOTS};
 use message::Reply;
-use message::fields::status_number;
 use octets::numbers::Refusal;
 use sequence::{LAST_TICK, MOST_STEPS, Sequence, Step};
 
@@ -44,7 +43,7 @@ pub enum End {
 // The ticks after which a sent step must have an answer.
 const ANSWER_TICKS: u64 = 16;
 
-// A step that has left: its TAN, its answer, and the tick at which it first left.
+// A step that has left: its TAN, its answer, and the tick at which it first left. The answer stays a number, since a host reads and hands in this struct.
 #[repr(C)]
 #[derive(Clone, Copy)]
 pub struct Sent {
@@ -54,6 +53,7 @@ pub struct Sent {
 }
 
 // ticks and distance are counted since the start; the first sent of commands belong to the steps that have left. Unused cells are blank.
+// A host reads and hands in this struct, so the count stands beside its cells.
 #[repr(C)]
 #[derive(Clone, Copy)]
 pub struct Playback {
@@ -64,6 +64,7 @@ pub struct Playback {
 }
 
 // A playback that starts.
+#[tactic(auto, unfolding(crate::specs::State::blank_playback))]
 pub fn blank_playback() -> Playback
     ensures { result ≡ blank_playback }
 {
@@ -242,11 +243,10 @@ impl Playback {
         if self.commands[i].answer == ANSWER_DONE {
             return Ok(End::GoesOn);
         }
-        let status = status_number(reply.status);
-        if answers::is_error(status, reply.error) {
+        if answers::is_error(reply) {
             return Ok(End::ToAbort);
         }
-        self.set_answer(i, answers::answer_from(status));
+        self.set_answer(i, answers::answer_from(reply.status));
         if self.is_all_done(sequence.len()) {
             return Ok(End::ToReady);
         }

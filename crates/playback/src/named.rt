@@ -12,6 +12,7 @@ use octets::numbers::{DONE, Refusal};
 use sequence::{MOST_STEPS, Sequence};
 
 // Of the numbers that a start gives, slot is that of 8, 9, 10, 11 and 12, step that of 11; else they are 0.
+// The number stays one, since a host reads this struct.
 #[repr(C)]
 #[derive(Clone, Copy)]
 pub struct Named {

@@ -10,8 +10,8 @@ use Rattle.octets.specs.Pick.{pick}
 use Rattle.sequence.specs.declared.Sequence.{Sequence}
 use Rattle.playback.specs.declared.Playback.{Playback}
 use Rattle.playback.specs.Tick as playback
-use Rattle.playback.specs.declared.Ticked.{Ticked}
-use Rattle.playback.specs.declared.Answered.{Answered}
+use Rattle.playback.specs.Tick.{Ticked}
+use Rattle.playback.specs.Answer.{Answered}
 use Rattle.master.specs.declared.Master.{Master}
 use Rattle.master.specs.Call.{Call, number_of, outcome_of}
 use Rattle.master.specs.States.{is_recording, is_playing, with_playback, ended}
@@ -28,7 +28,7 @@ use Rattle.events.proofs.Calls.{either_way}
 use Rattle.events.proofs.Changes.{Near, itself, slotted, Change, rested, moved, dropped, broken, record_starts, record_waits, record_ends, record_hears, record_hears_last, record_ticks, play_starts, play_ticks, play_ticks_last, play_hears, play_hears_last, replaced, not_recording}
 use Rattle.events.proofs.Invariant.{done_change}
 use Rattle.plays.specs.Plays.{Playing, tick_by, tick_in}
-use Rattle.playback.specs.State.{goes_on, to_ready, to_abort}
+use Rattle.playback.specs.State.{goes_on, to_ready, to_abort, same_end}
 
 -- ---- every call but a tick and an answer
 
@@ -127,9 +127,9 @@ done_or_not m c x h k = go (eqb (number_of c) 0)
 -- ---- a tick
 
 after_tick_lem : (m : Master) (t : Ticked) → Playing m
-    → Shows m.sequence (pick (eqb t.end goes_on) (with_playback m t.tan t.playback) (ended m states.abort)) (after_tick t)
+    → Shows m.sequence (pick (same_end t.end goes_on) (with_playback m t.tan t.playback) (ended m states.abort)) (after_tick t)
 unfolding after_tick ended pick
-after_tick_lem m t h = go (eqb t.end goes_on)
+after_tick_lem m t h = go (same_end t.end goes_on)
   where
     go : (b : Bool) → Shows m.sequence (pick b (with_playback m t.tan t.playback) (ended m states.abort)) (pick b (going t.playback t.tan) aborted)
     go true = goes t.playback t.tan h refl refl refl
@@ -154,7 +154,7 @@ by_tick m mm out h = done_or_not m (tick_call m mm out) (replay.tick mm) h (one_
 
 after_answer_lem : (m : Master) (a : Answered) → Playing m → Shows m.sequence (replied m a) (after_answer m.tan a)
 unfolding replied after_answer ended pick
-after_answer_lem m a h = go (eqb a.end to_ready) (eqb a.end to_abort)
+after_answer_lem m a h = go (same_end a.end to_ready) (same_end a.end to_abort)
   where
     go : (b c : Bool)
         → Shows m.sequence (pick b (ended m states.ready) (pick c (ended m states.abort) (with_playback m m.tan a.playback)))

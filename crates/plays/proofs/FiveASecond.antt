@@ -14,7 +14,7 @@ use Rattle.arrays.proofs.Every.{pairs_at}
 use Rattle.message.specs.declared.Reply.{Reply}
 use Rattle.sequence.specs.declared.Sequence.{Sequence}
 use Rattle.playback.specs.declared.Playback.{Playback}
-use Rattle.playback.specs.declared.Answered.{Answered}
+use Rattle.playback.specs.Answer.{Answered}
 use Rattle.playback.specs.State.{blank_playback}
 use Rattle.playback.specs.Answer.{with_answer, answered_of}
 use Rattle.playback.specs.Verification.{same_bytes}

@@ -12,7 +12,7 @@ use Rattle.sequence.specs.Sequence.{last_tick, length_of}
 use Rattle.sequence.specs.declared.Sequence.{Sequence}
 use Rattle.playback.specs.declared.Sent.{Sent}
 use Rattle.playback.specs.declared.Playback.{Playback}
-use Rattle.playback.specs.declared.Answered.{Answered}
+use Rattle.playback.specs.Answer.{Answered}
 use Rattle.octets.specs.Pick.{pick}
 use Rattle.arrays.specs.Arrays.{some}
 use Rattle.playback.specs.State.{answer_none, answer_done, goes_on, blank_sent, blank_playback}

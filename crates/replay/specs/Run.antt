@@ -1,11 +1,11 @@
 -- Runs of a playback, event by event, by the definitions that the calls of crate `playback` meet: `tick_of` and `answered_of`.
-use Rattle.std.specs.Prelude.{ℕ, zero, suc, ◌+◌, ◌-◌, ◌≤◌, ◌<◌, ◌≡◌, List, [], ◌∷◌, eqb, length, get_or, take}
+use Rattle.std.specs.Prelude.{ℕ, zero, suc, ◌+◌, ◌-◌, ◌≤◌, ◌<◌, ◌≡◌, List, [], ◌∷◌, length, get_or, take}
 use Rattle.octets.specs.Pick.{pick}
 use Rattle.message.specs.declared.Reply.{Reply}
 use Rattle.sequence.specs.Sequence.{most_steps, last_tick, blank_step, length_of}
 use Rattle.sequence.specs.declared.Sequence.{Sequence}
-use Rattle.playback.specs.{declared.Sent.Sent, declared.Playback.Playback, declared.Ticked.Ticked, declared.Answered.Answered, Answer.answered_of}
-use Rattle.playback.specs.State.{answer_none, goes_on, to_ready, to_abort, blank_sent, blank_playback}
+use Rattle.playback.specs.{declared.Sent.Sent, declared.Playback.Playback, Tick.Ticked, Answer.Answered, Answer.answered_of}
+use Rattle.playback.specs.State.{answer_none, goes_on, to_ready, to_abort, same_end, blank_sent, blank_playback}
 use Rattle.playback.specs.Tick.{answer_ticks, tick_of, next_tan}
 use Rattle.ticks.specs.Queue.{sum}
 
@@ -31,10 +31,10 @@ pub data State : Type 0 where
   aborted : State
 
 unfoldable pub after_tick : Ticked → State
-after_tick r = pick (eqb r.end goes_on) (going r.playback r.tan) aborted
+after_tick r = pick (same_end r.end goes_on) (going r.playback r.tan) aborted
 
 unfoldable pub after_answer : ℕ → Answered → State
-after_answer tan r = pick (eqb r.end to_ready) (done r.playback) (pick (eqb r.end to_abort) aborted (going r.playback tan))
+after_answer tan r = pick (same_end r.end to_ready) (done r.playback) (pick (same_end r.end to_abort) aborted (going r.playback tan))
 
 -- ---- runs
 

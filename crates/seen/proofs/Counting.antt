@@ -11,7 +11,7 @@ use Rattle.sequence.specs.declared.Sequence.{Sequence}
 use Rattle.playback.specs.State.{blank_playback}
 use Rattle.playback.specs.Tick.{next_tan, counted_playback, after_leaving, tick_of}
 use Rattle.playback.specs.declared.Playback.{Playback}
-use Rattle.playback.specs.declared.Ticked.{Ticked}
+use Rattle.playback.specs.Tick.{Ticked}
 use Rattle.master.specs.declared.Master.{Master}
 use Rattle.master.specs.Messages.{reply_in}
 use Rattle.master.specs.States.{is_playing, new_master, with_state, with_recording, with_playback, ended}

@@ -29,7 +29,7 @@ use Rattle.playback.specs.Pairs.{pairs}
 use Rattle.playback.specs.Answer.{is_answer_of, find_answered, answered_of}
 use Rattle.playback.specs.declared.Sent.{Sent}
 use Rattle.playback.specs.declared.Playback.{Playback}
-use Rattle.playback.specs.declared.Answered.{Answered}
+use Rattle.playback.specs.Answer.{Answered}
 use Rattle.playback.proofs.Pairs.{get_d_pairs}
 use Rattle.master.specs.declared.Master.{Master}
 use Rattle.master.specs.Call.{refusal, outcome_of, number_of, slot_at, is_absent}

@@ -23,7 +23,6 @@ returns-then-is_error c =
       ← i.number,
       lt-leb _ _ i.within,
       ne_eqb _ _ c.if-self-i-eq-ANSWER_DONE.false,
-      ← c.status_number-status.ensures,
       said _ _ _ c.is_error.ensures c.if-is_error.true,
     )
 
@@ -35,7 +34,6 @@ returns-then-is_all_done c =
       ← i.number,
       lt-leb _ _ i.within,
       ne_eqb _ _ c.if-self-i-eq-ANSWER_DONE.false,
-      ← c.status_number-status.ensures,
       said _ _ _ c.is_error.ensures c.if-is_error.false,
       ← c.answer_from.ensures,
       ← c.set_answer.ensures,
@@ -51,7 +49,6 @@ returns c =
       ← i.number,
       lt-leb _ _ i.within,
       ne_eqb _ _ c.if-self-i-eq-ANSWER_DONE.false,
-      ← c.status_number-status.ensures,
       said _ _ _ c.is_error.ensures c.if-is_error.false,
       ← c.answer_from.ensures,
       ← c.set_answer.ensures,
