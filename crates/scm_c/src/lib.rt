@@ -84,7 +84,7 @@ pub extern "C" fn scm_write_object(
     ensures value { result ≡ write_answer (object_from object) out.old place }
     ensures out_after { out.new ≡ write_out (object_from object) out.old place }
 {
-    flat_object::write(object, place, out)
+    flat_object::write(&object, place, out)
 }
 
 // A pool taken apart and written again.
