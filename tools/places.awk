@@ -62,7 +62,7 @@ function function_at(file, at,    i, type) {
     sub(/ where .*| *\{.*/, "", type)
     sub(/^.* for /, "", type)
     sub(/^.*::/, "", type)
-    sub(/ *$/, "", type)
+    gsub(/^ *| *$/, "", type)
     return module_of(declaring(type, file)) type "/" name_of(line[file, at])
 }
 

@@ -84,7 +84,7 @@ pub fn function_at(s: &[u8], at: usize) -> FunctionHead
     }
 }
 
-// The same where its bytes are there: no test is made for them.
+// The same where its bytes are there: no test is made for them, so that the compiler lays it into the walk over the objects.
 pub fn function_in(s: &[u8], at: usize) -> FunctionHead
     requires { at + 30 ≤ length s.now }
     ensures { result ≡ function_at s.now at }

@@ -156,7 +156,7 @@ pub struct Met {
 }
 
 // An object has 8 bytes at least, so a pool holds at most 2,048. Most are states, then functions, so it is asked first whether one of these stands there
-// without a fault; a base, and the object at fault, come to `code_at`.
+// without a fault; a base, and the object at fault, come to `code_at`. A turn goes on by the length of what it has judged, so no `for` is plainer.
 pub fn stage_one(s: &[u8], places: &mut [u16]) -> Result<Met, Fault>
     requires { (length s.now ≤ 16384) × (length places.old ≡ 2048) }
     ensures verdict_value { said result ≡ stage_one s.now }

@@ -64,6 +64,7 @@ impl<'a> Index<'a> {
     {
         let b = (n % CHAINS) as usize;
         let mut i = self.chain[b] as usize;
+        // Where the chain goes on stands in its cells: nothing is counted, and no `for` is plainer.
         while i < self.places.len() {
             let p = self.places[i] as usize;
             let number = u16_in(self.pool, p);
@@ -170,7 +171,8 @@ impl<'a> Index<'a> {
     }
 
     // "a listed state absent, 04, likewise; two states of one function with one state ID, 07": every 04 comes before any 07. The functions are taken
-    // from the last to the first, so that the fault of the first stays. The set of the states of each function listed is stored.
+    // from the last to the first, so that the fault of the first stays. The set of the states of each function listed is
+    // stored in a lent array: a result that held them would be copied, which took 4 KB more of stack.
     fn states_fault(&self, list: Listed, sets: &mut [u64; 255]) -> Result<(), Fault>
         ensures verdict_value { said result ≡ Verdicts.first (first_fault (states_absent self.now.pool.now self.now.places.now 0x04) (numbers_at 2 self.now.pool.now list.at list.count)) (first_fault (states_alike self.now.pool.now self.now.places.now 0x07) (numbers_at 2 self.now.pool.now list.at list.count)) }
         ensures sets { Sets self.now.pool.now self.now.places.now (numbers_at 2 self.now.pool.now list.at list.count) sets.new 0 }
