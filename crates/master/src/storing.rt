@@ -16,13 +16,13 @@ impl Master {
         ensures out_after { out.new ≡ leaves_of (store_call self out.old) }
     {
         let sequence = self.sequence;
-        let bytes = store_bytes(sequence);
+        let bytes = store_bytes(&sequence);
         let own = unstored(sequence);
         let why = refusal(out.len() < bytes, false, false, self.state != READY, own);
         if why != DONE {
             return self.gives(why);
         }
-        store::storing::store(sequence, out);
+        store::storing::store(&sequence, out);
         Outcome {
             number: DONE,
             code: 0,
@@ -40,14 +40,13 @@ impl Master {
         if why != DONE {
             return self.gives(why);
         }
-        let loaded = store::loading::load(blocks);
-        let number = loaded.number;
-        if number != DONE {
-            return self.gives(number);
+        match store::loading::load(blocks) {
+            Ok(sequence) => {
+                self.sequence = sequence;
+                self.gives(DONE)
+            }
+            Err(why) => self.gives(why.number()),
         }
-        let sequence = loaded.sequence;
-        self.sequence = sequence;
-        self.gives(DONE)
     }
 }
 
