@@ -12,7 +12,7 @@ use Rattle.sequence.specs.declared.Sequence.{Sequence}
 use Rattle.store.specs.Blocks.{blocks_for}
 use Rattle.store.specs.Stored.{slots_in, stored_of, stored_in, store_bytes}
 use Rattle.store.specs.Loaded.{loaded_of}
-use Rattle.store.specs.{Legal.Legal, Promises.Altered, declared.Loaded.Loaded}
+use Rattle.store.specs.{Legal.Legal, Promises.Altered, Loaded.Loaded}
 use Rattle.store.proofs.Sets.{stands}
 use Rattle.store.proofs.Contents.{stores_some}
 use Rattle.store.proofs.Again as store_again

@@ -13,7 +13,7 @@ pub const MOST_STEPS: usize = 64;
 // The last tick of a recording and of a playback.
 pub const LAST_TICK: u32 = 36000;
 
-// The editions: by the second identity numbers agree too.
+// The editions: by the second identity numbers agree too. Numbers and no enum: a host may hand any, and a Sequence lies in its memory.
 pub const FIRST_EDITION: u32 = 1;
 
 pub const SECOND_EDITION: u32 = 2;
@@ -31,7 +31,7 @@ pub struct Step {
 }
 
 // The first count of steps are used, in the order of their start, or of their blocks; records stand by slot. Unused cells are blank. edition is 1 or 2, and 0
-// where there is no step.
+// where there is no step. A count beside an array, since it lies in a host's memory: `steps` lends those that are used.
 #[repr(C)]
 #[derive(Clone, Copy)]
 pub struct Sequence {

@@ -11,7 +11,7 @@ use client::{ClientRecord, SLOTS};
 use octets::{put_byte, put_bytes, put_u32, put_u64};
 use sequence::{Sequence, Step};
 
-// The slots of which there is a client record, lowest first: the first count of the cells.
+// The slots of which there is a client record, lowest first: the first count of the cells, in fixed memory; `slots` lends them.
 #[derive(Clone, Copy)]
 struct Used {
     count: usize,
