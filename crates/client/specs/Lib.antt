@@ -1,2 +1,3 @@
 pub mod Clients
+pub mod Reports
 pub mod Records

@@ -2,26 +2,52 @@
 #![tactic(auto)]
 
 ghost use Rattle.std.specs.Prelude.{◌≡◌};
-ghost use Rattle.arrays.specs.Arrays.{some};
-ghost use Rattle.client.specs.Clients.{is_taken, is_enabled, is_awake, is_named, is_other, passes, blank_slot, attached, with_wanted, with_report};
+ghost use Rattle.client.specs.Clients.{is_taken, is_enabled, is_awake, is_named, is_other, blank_slot, attached};
 ghost use Rattle.client.specs.Records.{blank_record, record_of};
+ghost use Rattle.client.specs.Reports.{report_number, report_of};
 
 use octets::label::{Label, blank};
+use octets::numbers::Refusal;
 use profile::{Profile, blank_profile};
 
 // How many slots there are.
 pub const SLOTS: usize = 8;
 
-// A client's last report; the numbering is the library's own. A number that is not here counts as playback.
-pub const DISABLED: u8 = 0;
+// The state that a client reports; the numbering is the library's own. In a slot a number that is not here counts as playback.
+#[derive(Clone, Copy, Debug, PartialEq, Eq)]
+pub enum Report {
+    Disabled = 0,
+    Ready = 1,
+    Record = 2,
+    Playback = 4,
+    Abort = 5,
+}
 
-pub const READY: u8 = 1;
+impl Report {
+    // As a slot holds it.
+    pub fn number(self) -> u8
+        ensures { result ≡ report_number self }
+    {
+        self as u8
+    }
+}
 
-pub const RECORD: u8 = 2;
+impl TryFrom<u32> for Report {
+    type Error = Refusal;
 
-pub const PLAYBACK: u8 = 4;
+    ghost try_from_gives = { λ number r. r ≡ report_of number };
 
-pub const ABORT: u8 = 5;
+    fn try_from(number: u32) -> Result<Report, Refusal> {
+        match number {
+            0 => Ok(Report::Disabled),
+            1 => Ok(Report::Ready),
+            2 => Ok(Report::Record),
+            4 => Ok(Report::Playback),
+            5 => Ok(Report::Abort),
+            _ => Err(Refusal::WrongValue),
+        }
+    }
+}
 
 // taken and wanted are 0 for no; any other number is yes. An empty slot is blank.
 #[repr(C)]
@@ -45,19 +71,7 @@ pub struct ClientRecord {
     pub configuration: Label,
 }
 
-// What a slot may be asked.
-#[derive(Clone, Copy)]
-pub enum Test {
-    // A client is attached that last reported something else than disabled.
-    Awake,
-    // A client is enabled.
-    Enabled,
-    // A client of this NAME is attached.
-    Named(u64),
-    // An enabled client last reported something else than this.
-    Other(u8),
-}
-
+#[tactic(auto, unfolding(crate::specs::Clients::blank_slot))]
 pub fn blank_slot() -> Client
     ensures { result ≡ blank_slot }
 {
@@ -65,7 +79,7 @@ pub fn blank_slot() -> Client
     Client {
         taken: 0,
         wanted: 0,
-        report: DISABLED,
+        report: Report::Disabled as u8,
         name: 0,
         profile,
     }
@@ -78,12 +92,13 @@ pub fn attached(name: u64, profile: Profile) -> Client
     Client {
         taken: 1,
         wanted: 0,
-        report: DISABLED,
+        report: Report::Disabled as u8,
         name,
         profile,
     }
 }
 
+#[tactic(auto, unfolding(crate::specs::Records::blank_record))]
 pub fn blank_record() -> ClientRecord
     ensures { result ≡ blank_record }
 {
@@ -99,81 +114,51 @@ pub fn blank_record() -> ClientRecord
 }
 
 impl Client {
-    pub fn is_taken(self) -> bool
-        ensures { result ≡ is_taken self }
+    // A client is attached.
+    pub fn is_taken(&self) -> bool
+        ensures { result ≡ is_taken self.now }
     {
         self.taken != 0
     }
 
-    pub fn is_enabled(self) -> bool
-        ensures { result ≡ is_enabled self }
+    pub fn is_enabled(&self) -> bool
+        ensures { result ≡ is_enabled self.now }
     {
-        (self.taken != 0) & (self.wanted != 0) & (self.report != DISABLED)
+        self.is_awake() & (self.wanted != 0)
     }
 
-    fn is_awake(self) -> bool
-        ensures { result ≡ is_awake self }
+    // A client is attached that last reported something else than disabled.
+    pub fn is_awake(&self) -> bool
+        ensures { result ≡ is_awake self.now }
     {
-        (self.taken != 0) & (self.report != DISABLED)
+        (self.taken != 0) & (self.report != Report::Disabled as u8)
     }
 
-    fn is_named(self, name: u64) -> bool
-        ensures { result ≡ is_named name self }
+    // A client of this NAME is attached.
+    pub fn is_named(&self, name: u64) -> bool
+        ensures { result ≡ is_named name self.now }
     {
         (self.taken != 0) & (self.name == name)
     }
 
-    fn is_other(self, report: u8) -> bool
-        ensures { result ≡ is_other report self }
+    // An enabled client last reported something else than this.
+    pub fn is_other(&self, report: Report) -> bool
+        ensures { result ≡ is_other (report_number report) self.now }
     {
-        self.is_enabled() & (self.report != report)
-    }
-
-    fn passes(self, test: Test) -> bool
-        ensures { result ≡ passes test self }
-    {
-        match test {
-            Test::Awake => self.is_awake(),
-            Test::Enabled => self.is_enabled(),
-            Test::Named(name) => self.is_named(name),
-            Test::Other(report) => self.is_other(report),
-        }
-    }
-
-    pub fn with_wanted(mut self, wanted: u8) -> Client
-        ensures { result ≡ with_wanted self wanted }
-    {
-        self.wanted = wanted;
-        self
-    }
-
-    pub fn with_report(mut self, report: u8) -> Client
-        ensures { result ≡ with_report self report }
-    {
-        self.report = report;
-        self
+        self.is_enabled() & (self.report != report.number())
     }
 
     // The client's record in a sequence.
-    pub fn kept_record(self) -> ClientRecord
-        ensures { result ≡ record_of self }
+    #[tactic(auto, unfolding(crate::specs::Records::record_of))]
+    pub fn kept_record(&self) -> ClientRecord
+        ensures { result ≡ record_of self.now }
     {
-        let profile = self.profile;
-        let version = profile.version;
-        let configuration = profile.configuration;
         ClientRecord {
             used: 1,
             name: self.name,
-            master: profile.master,
-            version,
-            configuration,
+            master: self.profile.master,
+            version: self.profile.version,
+            configuration: self.profile.configuration,
         }
     }
-}
-
-// Some slot passes the test.
-pub fn some_slot(slots: [Client; SLOTS], test: Test) -> bool
-    ensures { result ≡ some (passes test) slots }
-{
-    slots.iter().any(|slot| slot.passes(test))
 }

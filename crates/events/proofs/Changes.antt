@@ -20,7 +20,7 @@ use Rattle.sequence.specs.declared.Sequence.{Sequence}
 use Rattle.store.specs.Loaded.{load_number, loaded_of}
 use Rattle.recording.specs.State.{blank_recording}
 use Rattle.recording.specs.Indication as indications
-use Rattle.recording.specs.declared.Heard.{Heard}
+use Rattle.recording.specs.Indication.{Heard}
 use Rattle.recording.proofs.Steps.{both}
 use Rattle.playback.specs.State.{goes_on, blank_playback}
 use Rattle.playback.proofs.Ends.{is_end}

@@ -20,7 +20,7 @@ use Rattle.recording.specs.Indication as recording
 use Rattle.sequence.specs.Sound.{SoundSequence}
 use Rattle.recording.specs.Promises.{Sound}
 use Rattle.recording.specs.declared.Recording.{Recording}
-use Rattle.recording.specs.declared.Heard.{Heard}
+use Rattle.recording.specs.Indication.{Heard}
 use Rattle.recording.proofs.Steps.{both}
 use Rattle.recording.proofs.Sound.{sound_blank, sound_counted, sound_heard}
 use Rattle.recording.proofs.Keeps as kept

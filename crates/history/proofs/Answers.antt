@@ -21,7 +21,7 @@ use Rattle.recording.specs.Indication.{is_open, has_open, held_of, step_at, is_s
 use Rattle.recording.specs.Promises.{Sound, start_of}
 use Rattle.recording.specs.declared.Taken.{Taken}
 use Rattle.recording.specs.declared.Recording.{Recording}
-use Rattle.recording.specs.declared.Heard.{Heard}
+use Rattle.recording.specs.Indication.{Heard}
 use Rattle.recording.proofs.Cases.{held_count, held_at, by_cases}
 use Rattle.events.proofs.Choices.{either, is_true}
 use Rattle.history.specs.Steps.{Entry, is_finish, is_failure, FirstOf, Standing, was_one_shot, still_open, was_done, was_failed, stands_as, is_open_by, is_open_in, beginnings, is_any_open}

@@ -21,7 +21,7 @@ use Rattle.flat.specs.Flat.{flat_of, reading_of}
 use Rattle.client.specs.declared.Client.{Client}
 use Rattle.recording.specs.Indication.{again_error, heard_again, error_by, first_error, heard_first, heard_of}
 use Rattle.recording.specs.declared.Recording.{Recording}
-use Rattle.recording.specs.declared.Heard.{Heard}
+use Rattle.recording.specs.Indication.{Heard}
 use Rattle.master.specs.declared.Master.{Master}
 use Rattle.master.specs.Messages.{execution_in, response_out}
 use Rattle.master.specs.Recording.{indication_call}

@@ -14,7 +14,7 @@ use Rattle.client.specs.declared.Client.{Client}
 use Rattle.recording.specs.State.{blank_recording}
 use Rattle.recording.specs.Indication as indications
 use Rattle.recording.specs.declared.Recording.{Recording}
-use Rattle.recording.specs.declared.Heard.{Heard}
+use Rattle.recording.specs.Indication.{Heard}
 use Rattle.master.specs.declared.Master.{Master}
 use Rattle.master.specs.States as state
 use Rattle.master.specs.States.{new_master, is_recording, is_playing, with_recording, ended, settled}

@@ -24,7 +24,7 @@ use Rattle.recording.specs.Indication.{status, counted_recording, held_of, step_
 use Rattle.recording.specs.Promises.{Sound, start_of, is_taken_of}
 use Rattle.recording.specs.declared.Taken.{Taken}
 use Rattle.recording.specs.declared.Recording.{Recording}
-use Rattle.recording.specs.declared.Heard.{Heard}
+use Rattle.recording.specs.Indication.{Heard}
 use Rattle.recording.proofs.Errors.{early, room}
 use Rattle.recording.proofs.Cases.{held_count, held_at, held_new, error, refused, step, begun, by_cases}
 use Rattle.recording.proofs.Steps.{both, start_same, is_begun}

@@ -4,10 +4,17 @@ use mathlib.Core.Path.{◌≡◌, refl}
 use mathlib.Core.Bool.{Bool, true, false, ◌||◌, true≢false}
 use native.Mathlib.Omega.{arith}
 use lib.Dec.{eqb, leb}
-use borrow.Author.Tests.{ne_eqb, leb-false}
+use borrow.Author.Tests.{leb-false}
 use Rattle.octets.specs.Pick.{pick}
 use Rattle.master.specs.declared.Master.{Master}
-use Rattle.master.specs.Call.{Call, refusal, number_of, outcome_of, leaves_of, gives}
+use lib.Dec.{ltb}
+use mathlib.Core.List.{List}
+use Rattle.std.proofs.Common.{length}
+use Rattle.octets.specs.Numbers.{completed, pool_refused}
+use Rattle.octets.specs.Refusals.{refusal_number}
+use Rattle.octets.specs.declared.numbers.Refusal.{Refusal}
+use Rattle.octets.specs.declared.numbers.Refusal.TheVariants.{TooShort, WrongState, WrongSlot, WrongValue, NotExpected, PoolRefused, NoStep, NotEnabled, NameDiffers, LabelDiffers, NotInPool, NotReady, NotDisabled, NoneEnabled, NoMatch, CheckWrong, NotStored}
+use Rattle.master.specs.Call.{Call, refusal, outcome_of, leaves_of, gives}
 
 pick_same : {X : Type 0} (b : Bool) (x : X) → pick b x x ≡ x
 unfolding pick
@@ -40,61 +47,119 @@ below slot b e = go (leb 8 slot) refl e
     go true t e = absurd (true≢false e)
     go false t e = leb-false 8 slot t
 
--- ---- a call whose own rule is asked last
+-- ---- a call that is refused or done, test by test
 
--- what comes before it refuses the call, whatever it gives
-pub before_own : (short wrong absent barred : Bool) (own : ℕ) → (refusal short wrong absent barred 0 ≡ 0 → ⊥) → refusal short wrong absent barred 0 ≡ refusal short wrong absent barred own
-unfolding pick refusal
-before_own true wrong absent barred own h = refl
-before_own false true absent barred own h = refl
-before_own false false true barred own h = refl
-before_own false false false true own h = refl
-before_own false false false false own h = absurd (h refl)
+pub some_number : (e : Refusal) → eqb (refusal_number e) 0 ≡ false
+some_number TooShort = refl
+some_number WrongState = refl
+some_number WrongSlot = refl
+some_number WrongValue = refl
+some_number NotExpected = refl
+some_number PoolRefused = refl
+some_number NoStep = refl
+some_number NotEnabled = refl
+some_number NameDiffers = refl
+some_number LabelDiffers = refl
+some_number NotInPool = refl
+some_number NotReady = refl
+some_number NotDisabled = refl
+some_number NoneEnabled = refl
+some_number NoMatch = refl
+some_number CheckWrong = refl
+some_number NotStored = refl
 
--- and not by its pool
-pub early : (short wrong absent barred : Bool) → refusal short wrong absent barred 0 ≡ 6 → ⊥
-unfolding pick refusal
-early true wrong absent barred e = absurd (omega (arith, e))
-early false true absent barred e = absurd (omega (arith, e))
-early false false true barred e = absurd (omega (arith, e))
-early false false false true e = absurd (omega (arith, e))
-early false false false false e = absurd (omega (arith, e))
+module _ (c : Call) (m : Master) where
+  pub gives_too_short : {e : Refusal} → ltb (length c.lent) c.needs ≡ true → e ≡ TooShort → gives (refusal_number e) m ≡ outcome_of m c
+  unfolding pick gives outcome_of refusal
+  gives_too_short s e = rw (e, s)
 
--- else its number is the call's
-pub own_last : (short wrong absent barred : Bool) (own : ℕ) → refusal short wrong absent barred 0 ≡ 0 → own ≡ refusal short wrong absent barred own
-unfolding pick refusal
-own_last short wrong absent barred own e =
-    let p = passed short wrong absent barred 0 e in
-    rw (p.fits, p.right, p.here, p.allowed)
+  pub gives_wrong : {e : Refusal} → ltb (length c.lent) c.needs ≡ false → c.wrong ≡ true → e ≡ WrongValue → gives (refusal_number e) m ≡ outcome_of m c
+  unfolding pick gives outcome_of refusal
+  gives_wrong s w e = rw (e, s, w)
 
--- ---- what is given back
+  pub gives_absent :
+      {e : Refusal} → ltb (length c.lent) c.needs ≡ false → c.wrong ≡ false → c.absent ≡ true → e ≡ WrongSlot → gives (refusal_number e) m ≡ outcome_of m c
+  unfolding pick gives outcome_of refusal
+  gives_absent s w a e = rw (e, s, w, a)
 
-module _ (c : Call) (why : ℕ) (is : why ≡ number_of c) where
-  pub refused : (m : Master) → (why ≡ 0 → ⊥) → c.code ≡ 0 → c.object ≡ 0 → gives why m ≡ outcome_of m c
-  unfolding pick gives outcome_of
-  refused m h code object = rw (← is, ne_eqb why 0 h, code, object, pick_same {X = ℕ} (eqb why 6) 0)
+  pub gives_barred :
+      {e : Refusal} → ltb (length c.lent) c.needs ≡ false → c.wrong ≡ false → c.absent ≡ false → c.barred ≡ true → e ≡ WrongState
+      → gives (refusal_number e) m ≡ outcome_of m c
+  unfolding pick gives outcome_of refusal
+  gives_barred s w a b e = rw (e, s, w, a, b)
 
-  -- of a call that may refuse a pool
-  pub refused_other : (m : Master) → (why ≡ 0 → ⊥) → (why ≡ 6 → ⊥) → gives why m ≡ outcome_of m c
-  unfolding pick gives outcome_of
-  refused_other m h k = rw (← is, ne_eqb why 0 h, ne_eqb why 6 k)
+  -- its own rule refuses it
+  pub gives_own :
+      (e : Refusal) → ltb (length c.lent) c.needs ≡ false → c.wrong ≡ false → c.absent ≡ false → c.barred ≡ false → refusal_number e ≡ c.own
+      → c.code ≡ 0 → c.object ≡ 0 → gives (refusal_number e) m ≡ outcome_of m c
+  unfolding pick gives outcome_of refusal
+  gives_own e s w a b own code object =
+      rw (s, w, a, b, ← own, some_number e, code, object, pick_same {X = ℕ} (eqb (refusal_number e) 6) 0)
 
-  pub refused_pool : (m : Master) → why ≡ 6 → record { number = 6; code = c.code; object = c.object; count = 0; master = m } ≡ outcome_of m c
-  unfolding pick outcome_of
-  refused_pool m z = rw (← is, z)
+  -- its own rule refuses its pool
+  pub gives_pool :
+      {code object : ℕ} → ltb (length c.lent) c.needs ≡ false → c.wrong ≡ false → c.absent ≡ false → c.barred ≡ false → c.own ≡ 6 → code ≡ c.code
+      → object ≡ c.object → record { number = pool_refused; code = code; object = object; count = 0; master = m } ≡ outcome_of m c
+  unfolding pick outcome_of refusal
+  gives_pool s w a b own code object = rw (s, w, a, b, own, code, object)
 
-  pub kept : (why ≡ 0 → ⊥) → c.lent ≡ leaves_of c
-  unfolding pick leaves_of
-  kept h = rw (← is, ne_eqb why 0 h)
+  pub gives_done :
+      {after : Master} → ltb (length c.lent) c.needs ≡ false → c.wrong ≡ false → c.absent ≡ false → c.barred ≡ false → c.own ≡ 0 → c.count ≡ 0
+      → after ≡ c.after → gives completed after ≡ outcome_of m c
+  unfolding pick gives outcome_of refusal
+  gives_done s w a b own count after = rw (s, w, a, b, own, count, after)
 
-  pub counted : (m : Master) → why ≡ 0 → record { number = 0; code = 0; object = 0; count = c.count; master = c.after } ≡ outcome_of m c
-  unfolding pick outcome_of
-  counted m z = rw (← is, z)
+  pub gives_counted :
+      {after : Master} → {count : ℕ} → ltb (length c.lent) c.needs ≡ false → c.wrong ≡ false → c.absent ≡ false → c.barred ≡ false → c.own ≡ 0
+      → count ≡ c.count → after ≡ c.after → record { number = completed; code = 0; object = 0; count = count; master = after } ≡ outcome_of m c
+  unfolding pick outcome_of refusal
+  gives_counted s w a b own count after = rw (s, w, a, b, own, count, after)
 
-  pub done : (m : Master) → why ≡ 0 → c.count ≡ 0 → gives 0 c.after ≡ outcome_of m c
-  unfolding pick gives outcome_of
-  done m z count = rw (← is, z, count)
+module _ (c : Call) where
+  -- the lent bytes: as they were, or as they are written
+  pub leaves_too_short : {out : List ℕ} → ltb (length c.lent) c.needs ≡ true → out ≡ c.lent → out ≡ leaves_of c
+  unfolding pick leaves_of refusal
+  leaves_too_short s same = rw (s, same)
 
-  pub written : why ≡ 0 → c.written ≡ leaves_of c
-  unfolding pick leaves_of
-  written z = rw (← is, z)
+  pub leaves_wrong : {out : List ℕ} → ltb (length c.lent) c.needs ≡ false → c.wrong ≡ true → out ≡ c.lent → out ≡ leaves_of c
+  unfolding pick leaves_of refusal
+  leaves_wrong s w same = rw (s, w, same)
+
+  pub leaves_absent : {out : List ℕ} → ltb (length c.lent) c.needs ≡ false → c.wrong ≡ false → c.absent ≡ true → out ≡ c.lent → out ≡ leaves_of c
+  unfolding pick leaves_of refusal
+  leaves_absent s w a same = rw (s, w, a, same)
+
+  pub leaves_barred :
+      {out : List ℕ} → ltb (length c.lent) c.needs ≡ false → c.wrong ≡ false → c.absent ≡ false → c.barred ≡ true → out ≡ c.lent → out ≡ leaves_of c
+  unfolding pick leaves_of refusal
+  leaves_barred s w a b same = rw (s, w, a, b, same)
+
+  pub leaves_own :
+      {out : List ℕ} → ltb (length c.lent) c.needs ≡ false → c.wrong ≡ false → c.absent ≡ false → c.barred ≡ false → eqb c.own 0 ≡ false
+      → out ≡ c.lent → out ≡ leaves_of c
+  unfolding pick leaves_of refusal
+  leaves_own s w a b own same = rw (s, w, a, b, own, same)
+
+  pub leaves_done :
+      {out : List ℕ} → ltb (length c.lent) c.needs ≡ false → c.wrong ≡ false → c.absent ≡ false → c.barred ≡ false → c.own ≡ 0 → out ≡ c.written
+      → out ≡ leaves_of c
+  unfolding pick leaves_of refusal
+  leaves_done s w a b own writes = rw (s, w, a, b, own, writes)
+
+pub ruleset calls = (
+  gives_too_short,
+  gives_wrong,
+  gives_absent,
+  gives_barred,
+  gives_own,
+  gives_pool,
+  gives_done,
+  gives_counted,
+  leaves_too_short,
+  leaves_wrong,
+  leaves_absent,
+  leaves_barred,
+  leaves_own,
+  leaves_done,
+  some_number,
+)

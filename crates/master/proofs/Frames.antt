@@ -14,3 +14,5 @@ without_frames steps = sym (pad_none 0 576)
 pub none_counted : frame_count_of blank_playback.ticks blank_playback.sent blank_playback.commands ≡ 0
 unfolding frame_count_of blank_playback
 none_counted = refl
+
+pub ruleset without = (without_frames, none_counted)

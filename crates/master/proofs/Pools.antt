@@ -13,3 +13,5 @@ unfit_no code h = rw (ne_eqb code 0 h)
 pub unfit_yes : (code : ℕ) → code ≡ 0 → unfit code ≡ 0
 unfolding pick unfit
 unfit_yes code h = rw (eq-eqb code 0 h)
+
+pub ruleset pools = (unfit_no, unfit_yes)

@@ -1,6 +1,6 @@
 -- 01, "Numbers a call gives back": a call as one record, and what every call gives back.
-use Rattle.std.specs.Prelude.{ℕ, Bool, false, not, ◌||◌, List, [], eqb, leb, ltb, length, get_or}
-use Rattle.octets.specs.Pick.{pick}
+use Rattle.std.specs.Prelude.{◌≡◌, ℕ, Bool, true, false, not, ◌||◌, List, [], eqb, leb, ltb, length, get_or, Result, Ok, Err, MatchResult}
+use Rattle.octets.specs.{Pick.pick, Refusals.refusal_number, declared.numbers.Refusal.Refusal}
 use Rattle.octets.specs.Numbers.{completed, too_short, wrong_state, wrong_slot, wrong_value, pool_refused}
 use Rattle.client.specs.{Clients.is_taken, Clients.no_slot, declared.Client.Client}
 use Rattle.master.specs.{declared.Master.Master, declared.Outcome.Outcome}
@@ -83,3 +83,12 @@ slot_at m slot = get_or m.slots slot no_slot
 -- "3: slot above 7, empty"
 abbrev pub is_absent : Master → ℕ → Bool
 is_absent m slot = leb 8 slot || not (is_taken (slot_at m slot))
+
+-- the same of a call that says how many frames or bytes there are
+abbrev pub counted : Result ℕ Refusal → Master → Outcome
+counted (Ok count) m = record { number = completed; code = 0; object = 0; count = count; master = m }
+counted (Err why) m = gives (refusal_number why) m
+
+-- a test that refuses a call: an error says that it holds, and gives its number
+abbrev pub Refuses : {T : Type 0} → Bool → Refusal → Result T Refusal → Type 0
+Refuses test why answer = MatchResult answer (λ _. test ≡ false) (λ e. (test ≡ true) × (e ≡ why))

@@ -1,6 +1,8 @@
 pub mod Call
 pub mod States
+pub mod Named
 pub mod Clients
+pub mod Attaching
 pub mod Messages
 pub mod Recording
 pub mod Playback

@@ -7,7 +7,7 @@ use Rattle.message.specs.{Fields.status_number, declared.Execution.Execution}
 use Rattle.client.specs.Clients as client
 use Rattle.client.specs.{Clients.is_enabled, Clients.is_other, declared.Client.Client}
 use Rattle.recording.specs.{State.blank_recording, Indication.has_open, Indication.heard_of, Kept.kept_sequence, declared.Recording.Recording}
-use Rattle.recording.specs.declared.Heard.{Heard}
+use Rattle.recording.specs.Indication.{Heard}
 use Rattle.playback.specs.Answer.{has_function}
 use Rattle.master.specs.declared.Master.{Master}
 use Rattle.master.specs.Call.{Call, bare, slot_at, is_absent}

@@ -1,5 +1,5 @@
 -- 01, "Recording" and "Verification and playback": a tick.
-use Rattle.std.specs.Prelude.{ℕ, false, List, [], ◌∷◌, ◌++◌, eqb, leb, ltb, drop, replicate}
+use Rattle.std.specs.Prelude.{ℕ, false, List, [], ◌∷◌, ◌++◌, leb, ltb, drop, replicate}
 use Rattle.octets.specs.Pick.{pick}
 use Rattle.octets.specs.Numbers.{completed, too_short, wrong_state, wrong_value}
 use Rattle.sequence.specs.Sequence.{last_tick}

@@ -1,11 +1,11 @@
 // The edition of the sequence: by which rule its clients' NAMEs are verified.
 ghost use Rattle.std.specs.Prelude.{◌≡◌};
-ghost use Rattle.master.specs.Call.{outcome_of};
+ghost use Rattle.octets.specs.Refusals.{answer_number};
+ghost use Rattle.master.specs.Call.{gives, outcome_of};
 ghost use Rattle.master.specs.Editions.{unset, edition_call};
 
-use crate::clients::refusal;
-use crate::{Master, Outcome, READY};
-use octets::numbers::{DONE, NO_STEP, NOT_STORED};
+use crate::{Master, Outcome, State};
+use octets::numbers::Refusal;
 use sequence::{Sequence, is_edition};
 
 impl Master {
@@ -13,26 +13,32 @@ impl Master {
     pub fn edition(mut self, edition: u32) -> Outcome
         ensures { result ≡ outcome_of self (edition_call self edition) }
     {
-        let sequence = self.sequence;
-        let own = unset(sequence, edition);
-        let why = refusal(false, false, false, self.state != READY, own);
-        if why != DONE {
-            return self.gives(why);
-        }
-        self.sequence = sequence.with_edition(edition);
-        self.gives(DONE)
+        let answer = self.set_edition(edition);
+        self.answers(answer)
+    }
+
+    #[tactic(auto, using(crate::proofs::Calls::calls), unfolding(crate::specs::Editions::edition_call))]
+    fn set_edition(&mut self, edition: u32) -> Result<(), Refusal>
+        ensures { gives (answer_number result) self.new
+            ≡ outcome_of self.old (edition_call self.old edition) }
+    {
+        self.in_state(State::Ready)?;
+        can_set(&self.sequence, edition)?;
+        self.sequence.edition = edition;
+        Ok(())
     }
 }
 
-// 7 where there is no sequence, 17 for an unknown edition, else 0.
-fn unset(sequence: Sequence, edition: u32) -> u8
-    ensures { result ≡ unset sequence edition }
+// Number 7 where there is no sequence, 17 for an unknown edition.
+#[tactic(auto, unfolding(crate::specs::Editions::unset, octets::specs::Pick::pick))]
+fn can_set(sequence: &Sequence, edition: u32) -> Result<(), Refusal>
+    ensures { answer_number result ≡ unset sequence.now edition }
 {
     if sequence.len() == 0 {
-        return NO_STEP;
+        return Err(Refusal::NoStep);
     }
     if !is_edition(edition) {
-        return NOT_STORED;
+        return Err(Refusal::NotStored);
     }
-    DONE
+    Ok(())
 }

@@ -1,13 +1,18 @@
 // The master: its states, and a method for each event, which takes the old state and hands the new one back.
 #![tactic(auto)]
 
-ghost use Rattle.std.specs.Prelude.{◌≡◌, ◌<◌, ◌≤◌, length};
-ghost use Rattle.recording.specs.State.{blank_recording};
-ghost use Rattle.playback.specs.State.{blank_playback};
-ghost use Rattle.master.specs.Call.{gives};
-ghost use Rattle.master.specs.States.{new_master, ended, settled};
+ghost use Rattle.std.specs.Prelude.{◌≡◌, ◌<◌, not, eqb, OnOk};
+ghost use Rattle.octets.specs.Refusals.{answer_number};
+ghost use Rattle.octets.specs.declared.numbers.Refusal.TheVariants.{WrongState, WrongSlot};
+ghost use Rattle.arrays.specs.Arrays.{some};
+ghost use Rattle.client.specs.Clients.{is_awake, is_enabled, is_named, is_other};
+ghost use Rattle.client.specs.Reports.{report_number};
+ghost use Rattle.master.specs.Call.{gives, counted, is_absent, Refuses};
+ghost use Rattle.master.specs.Named.{state_number};
+ghost use Rattle.master.specs.States.{new_master, is_inactive, is_recording, ended, settled};
 
-use client::{Client, Test, blank_slot, some_slot};
+use client::{Client, Report, blank_slot};
+use octets::numbers::{Refusal, number_of};
 use playback::{Playback, blank_playback};
 use recording::{Recording, blank_recording};
 use sequence::{Sequence, blank_sequence};
@@ -22,17 +27,15 @@ pub mod storing;
 pub mod ticks;
 
 // A state; the numbering is the library's own. A number that is not here counts as abort.
-pub const INACTIVE: u8 = 0;
-
-pub const READY: u8 = 1;
-
-pub const RECORD: u8 = 2;
-
-pub const RECORD_COMPLETE: u8 = 3;
-
-pub const PLAYBACK: u8 = 4;
-
-pub const ABORT: u8 = 5;
+#[derive(Clone, Copy, Debug, PartialEq, Eq)]
+pub enum State {
+    Inactive = 0,
+    Ready = 1,
+    Record = 2,
+    RecordComplete = 3,
+    Playback = 4,
+    Abort = 5,
+}
 
 // tan is the TAN of the last command. recording is blank outside record and record complete, playback outside playback.
 #[repr(C)]
@@ -57,77 +60,136 @@ pub struct Outcome {
     pub master: Master,
 }
 
-// Neither a recording nor a playback. It has several callers, so that it is not inlined and the small methods around it are: no master is copied for it.
-#[derive(Clone, Copy)]
-pub(crate) struct Blank {
-    pub(crate) recording: Recording,
-    pub(crate) playback: Playback,
-}
-
-pub(crate) fn blank_parts() -> Blank
-    ensures { (result.recording ≡ blank_recording) × (result.playback ≡ blank_playback) }
-{
-    let recording = blank_recording();
-    let playback = blank_playback();
-    Blank {
-        recording,
-        playback,
-    }
-}
-
 impl Master {
+    #[tactic(auto, unfolding(crate::specs::States::new_master))]
     pub fn new() -> Master
         ensures { result ≡ new_master }
     {
         let slot = blank_slot();
-        let slots = [slot; 8];
-        let sequence = blank_sequence();
-        let none = blank_parts();
-        let recording = none.recording;
-        let playback = none.playback;
         Master {
-            state: INACTIVE,
+            state: State::Inactive as u8,
             tan: 0,
-            slots,
-            sequence,
-            recording,
-            playback,
+            slots: [slot; 8],
+            sequence: blank_sequence(),
+            recording: blank_recording(),
+            playback: blank_playback(),
         }
     }
 
-    pub(crate) fn gives(self, number: u8) -> Outcome
-        ensures { result ≡ gives number self }
+    // What a call gives back that is done or refused.
+    #[tactic(auto, unfolding(crate::specs::Call::gives))]
+    pub(crate) fn answers(&self, answer: Result<(), Refusal>) -> Outcome
+        ensures { result ≡ gives (answer_number answer) self.now }
     {
         Outcome {
-            number,
+            number: number_of(answer),
             code: 0,
             object: 0,
             count: 0,
-            master: self,
+            master: *self,
         }
+    }
+
+    // The same of a call that says how many frames or bytes there are.
+    #[tactic(auto, unfolding(crate::specs::Call::gives))]
+    pub(crate) fn counts(&self, answer: Result<u32, Refusal>) -> Outcome
+        ensures { result ≡ counted answer self.now }
+    {
+        let mut outcome = self.answers(answer.map(|_| ()));
+        outcome.count = answer.unwrap_or(0);
+        outcome
+    }
+
+    // The master is in this state.
+    pub(crate) fn is(&self, state: State) -> bool
+        ensures { result ≡ eqb self.now.state (state_number state) }
+    {
+        self.state == state as u8
+    }
+
+    // Record or record complete.
+    pub(crate) fn is_recording(&self) -> bool
+        ensures { result ≡ is_recording self.now }
+    {
+        self.is(State::Record) | self.is(State::RecordComplete)
+    }
+
+    // Number 2 in another state than this.
+    pub(crate) fn in_state(&self, state: State) -> Result<(), Refusal>
+        ensures { Refuses (not (eqb self.now.state (state_number state))) WrongState result }
+    {
+        if !self.is(state) {
+            return Err(Refusal::WrongState);
+        }
+        Ok(())
+    }
+
+    // Number 2 while the master is inactive.
+    pub(crate) fn active(&self) -> Result<(), Refusal>
+        ensures { Refuses (is_inactive self.now) WrongState result }
+    {
+        if self.is(State::Inactive) {
+            return Err(Refusal::WrongState);
+        }
+        Ok(())
+    }
+
+    // Number 3 without a client in the slot.
+    pub(crate) fn attached(&self, slot: usize) -> Result<(), Refusal>
+        ensures refused { Refuses (is_absent self.now slot) WrongSlot result }
+        ensures seat { OnOk result (slot < 8) }
+    {
+        match self.slots.get(slot) {
+            Some(client) if client.is_taken() => Ok(()),
+            _ => Err(Refusal::WrongSlot),
+        }
+    }
+
+    // Some attached client is not disabled.
+    pub(crate) fn any_awake(&self) -> bool
+        ensures { result ≡ some is_awake self.now.slots }
+    {
+        self.slots.iter().any(|s| s.is_awake())
+    }
+
+    // Some client is enabled.
+    pub(crate) fn any_enabled(&self) -> bool
+        ensures { result ≡ some is_enabled self.now.slots }
+    {
+        self.slots.iter().any(|s| s.is_enabled())
+    }
+
+    // A client of this NAME is attached.
+    pub(crate) fn any_named(&self, name: u64) -> bool
+        ensures { result ≡ some (is_named name) self.now.slots }
+    {
+        self.slots.iter().any(|s| s.is_named(name))
+    }
+
+    // Some enabled client last reported something else than this.
+    pub(crate) fn any_other(&self, report: Report) -> bool
+        ensures { result ≡ some (is_other (report_number report)) self.now.slots }
+    {
+        self.slots.iter().any(|s| s.is_other(report))
     }
 
     // A recording or a playback is over.
-    pub(crate) fn ended(mut self, state: u8) -> Master
-        ensures { result ≡ ended self state }
+    #[tactic(auto, unfolding(crate::specs::States::ended))]
+    pub(crate) fn end(&mut self, state: State)
+        ensures { self.new ≡ ended self.old (state_number state) }
     {
-        let none = blank_parts();
-        let recording = none.recording;
-        let playback = none.playback;
-        self.state = state;
-        self.recording = recording;
-        self.playback = playback;
-        self
+        self.state = state as u8;
+        self.recording = blank_recording();
+        self.playback = blank_playback();
     }
 
     // Abort is left where every enabled client has followed.
-    pub(crate) fn settled(mut self) -> Master
-        ensures { result ≡ settled self }
+    #[tactic(auto, unfolding(crate::specs::States::settled, octets::specs::Pick::pick))]
+    pub(crate) fn settle(&mut self)
+        ensures { self.new ≡ settled self.old }
     {
-        let slots = self.slots;
-        if (ABORT <= self.state) & !some_slot(slots, Test::Other(client::ABORT)) {
-            self.state = READY;
+        if (State::Abort as u8 <= self.state) & !self.any_other(Report::Abort) {
+            self.state = State::Ready as u8;
         }
-        self
     }
 }

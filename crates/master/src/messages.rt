@@ -1,11 +1,15 @@
-// The answers E.5 and E.8, and a slot's number as they have it.
-ghost use Rattle.std.specs.Prelude.{◌≡◌, min};
+// What a call reads and writes: the room for it, and the answers E.5 and E.8.
+ghost use Rattle.std.specs.Prelude.{◌≡◌, ltb, length};
+ghost use Rattle.octets.specs.declared.numbers.Refusal.TheVariants.{TooShort};
+ghost use Rattle.master.specs.Call.{Refuses};
 ghost use Rattle.master.specs.Messages.{response_out, receipt_out};
 
 use message::{Execution, Message, Receipt, Reply};
 use octets::label::blank;
+use octets::numbers::Refusal;
 
 // E.5.
+#[tactic(auto, unfolding(crate::specs::Messages::response_out))]
 pub(crate) fn write_response(e: Execution, error: u8, out: &mut [u8])
     ensures { out.new ≡ response_out e error out.old }
 {
@@ -21,6 +25,7 @@ pub(crate) fn write_response(e: Execution, error: u8, out: &mut [u8])
 }
 
 // E.8.
+#[tactic(auto, unfolding(crate::specs::Messages::receipt_out))]
 pub(crate) fn write_receipt(r: Reply, out: &mut [u8])
     ensures { out.new ≡ receipt_out r out.old }
 {
@@ -34,12 +39,12 @@ pub(crate) fn write_receipt(r: Reply, out: &mut [u8])
     message::write(Message::AnswerAcknowledgement(receipt), blank(), out);
 }
 
-// A slot's number, as a frame and a step have it; above 7 that of the last one, which is read in its place.
-pub(crate) fn octet(slot: usize) -> u8
-    ensures { result ≡ min slot 7 }
+// Number 1 where fewer bytes are lent than are needed.
+pub(crate) fn has_room(out: &[u8], needs: usize) -> Result<(), Refusal>
+    ensures { Refuses (ltb (length out.now) needs) TooShort result }
 {
-    if slot < 8 {
-        return slot as u8;
+    if out.len() < needs {
+        return Err(Refusal::TooShort);
     }
-    7
+    Ok(())
 }

@@ -1,90 +1,91 @@
 // A tick: 100 ms, and the millimetres driven.
-ghost use Rattle.std.specs.Prelude.{◌≡◌, ◌++◌, ◌≤◌, length, drop};
-ghost use Rattle.master.specs.Call.{outcome_of, leaves_of};
+ghost use Rattle.std.specs.Prelude.{◌≡◌, ◌++◌, ◌≤◌, ltb, length, drop};
+ghost use Rattle.octets.specs.declared.numbers.Refusal.TheVariants.{WrongValue};
+ghost use Rattle.master.specs.Call.{Refuses, counted, outcome_of, leaves_of};
 ghost use Rattle.master.specs.Tick.{tick_call, recording_ticked, playback_ticked, ticked, frames_in, count_in};
 
-use crate::clients::refusal;
-use crate::{ABORT, INACTIVE, Master, Outcome, PLAYBACK, READY, RECORD, RECORD_COMPLETE};
-use octets::numbers::DONE;
+use crate::messages::has_room;
+use crate::{Master, Outcome, State};
+use octets::numbers::Refusal;
 use playback::{End, blank_playback, frames};
 use sequence::LAST_TICK;
 
 impl Master {
-    fn recording_ticked(mut self, mm: u32) -> Master
-        ensures { result ≡ recording_ticked self mm }
-    {
-        let recording = self.recording;
-        let counted = recording.counted(mm);
-        if LAST_TICK <= counted.ticks {
-            return self.ended(READY);
-        }
-        self.recording = counted;
-        self
-    }
-
-    #[tactic(auto, unfolding(crate::specs::Tick::playback_ticked, octets::specs::Pick::pick))]
-    fn playback_ticked(mut self, mm: u32) -> Master
-        ensures { result ≡ playback_ticked self mm }
-    {
-        let mut playback = self.playback;
-        let mut tan = self.tan;
-        match playback.tick(&self.sequence, &mut tan, mm) {
-            End::GoesOn => {
-                self.tan = tan;
-                self.playback = playback;
-                self
-            }
-            _ => self.ended(ABORT),
-        }
-    }
-
-    fn ticked(self, mm: u32) -> Master
-        ensures { result ≡ ticked self mm }
-    {
-        if (self.state == RECORD) | (self.state == RECORD_COMPLETE) {
-            return self.recording_ticked(mm);
-        }
-        if self.state == PLAYBACK {
-            return self.playback_ticked(mm);
-        }
-        self.settled()
-    }
-
-    // The frames of a tick that leaves the master like this; how many they are.
-    fn write_frames(self, out: &mut [u8]) -> u32
-        requires { 576 ≤ length out.old }
-        ensures value { result ≡ count_in self }
-        ensures out_after { out.new ≡ frames_in self ++ drop 576 out.old }
-    {
-        if self.state != PLAYBACK {
-            return frames(&blank_playback(), &self.sequence, out);
-        }
-        frames(&self.playback, &self.sequence, out)
-    }
-
     // Fills 576 bytes: nine to a frame, the slot and E.6.
     pub fn tick(mut self, mm: u32, out: &mut [u8]) -> Outcome
         ensures value { result ≡ outcome_of self (tick_call self mm out.old) }
         ensures out_after { out.new ≡ leaves_of (tick_call self mm out.old) }
     {
-        let why = refusal(
-            out.len() < 576,
-            65535 < mm,
-            false,
-            self.state == INACTIVE,
-            DONE,
-        );
-        if why != DONE {
-            return self.gives(why);
-        }
-        let after = self.ticked(mm);
-        let count = after.write_frames(out);
-        Outcome {
-            number: DONE,
-            code: 0,
-            object: 0,
-            count,
-            master: after,
+        let answer = self.pass(mm, out);
+        self.counts(answer)
+    }
+
+    #[tactic(auto, using(crate::proofs::Calls::calls), unfolding(crate::specs::Tick::tick_call))]
+    fn pass(&mut self, mm: u32, out: &mut [u8]) -> Result<u32, Refusal>
+        ensures value { counted result self.new ≡ outcome_of self.old (tick_call self.old mm out.old) }
+        ensures out_after { out.new ≡ leaves_of (tick_call self.old mm out.old) }
+    {
+        has_room(out, 576)?;
+        in_range(mm)?;
+        self.active()?;
+        self.go_on(mm);
+        Ok(self.write_frames(out))
+    }
+
+    #[tactic(auto, unfolding(crate::specs::Tick::ticked, octets::specs::Pick::pick))]
+    fn go_on(&mut self, mm: u32)
+        ensures { self.new ≡ ticked self.old mm }
+    {
+        if self.is_recording() {
+            self.go_on_recording(mm);
+        } else if self.is(State::Playback) {
+            self.go_on_playing(mm);
+        } else {
+            self.settle();
         }
     }
+
+    #[tactic(auto, unfolding(crate::specs::Tick::recording_ticked, crate::specs::States::ended, octets::specs::Pick::pick))]
+    fn go_on_recording(&mut self, mm: u32)
+        ensures { self.new ≡ recording_ticked self.old mm }
+    {
+        self.recording.counted(mm);
+        if LAST_TICK <= self.recording.ticks {
+            self.end(State::Ready);
+        }
+    }
+
+    #[tactic(auto, unfolding(crate::specs::Tick::playback_ticked, crate::specs::States::ended, octets::specs::Pick::pick))]
+    fn go_on_playing(&mut self, mm: u32)
+        ensures { self.new ≡ playback_ticked self.old mm }
+    {
+        let mut tan = self.tan;
+        match self.playback.tick(&self.sequence, &mut tan, mm) {
+            End::GoesOn => self.tan = tan,
+            End::ToReady | End::ToAbort => self.end(State::Abort),
+        }
+    }
+
+    // The frames of a tick that leaves the master like this; how many they are.
+    #[tactic(auto, using(crate::proofs::Frames::without), unfolding(crate::specs::Tick::frames_in, crate::specs::Tick::count_in, octets::specs::Pick::pick))]
+    fn write_frames(&self, out: &mut [u8]) -> u32
+        requires { 576 ≤ length out.old }
+        ensures value { result ≡ count_in self.now }
+        ensures out_after { out.new ≡ frames_in self.now ++ drop 576 out.old }
+    {
+        if self.is(State::Playback) {
+            return frames(&self.playback, &self.sequence, out);
+        }
+        frames(&blank_playback(), &self.sequence, out)
+    }
+}
+
+// Number 4 for more millimetres than a tick may have.
+fn in_range(mm: u32) -> Result<(), Refusal>
+    ensures { Refuses (ltb 65535 mm) WrongValue result }
+{
+    if 65535 < mm {
+        return Err(Refusal::WrongValue);
+    }
+    Ok(())
 }

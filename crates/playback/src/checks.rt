@@ -6,7 +6,7 @@ ghost use Rattle.playback.specs.Pairs.{pairs};
 ghost use Rattle.playback.specs.Verification.{first_failing, agree_under, masters_agree, names_agree, rule_of, same_label, labels_agree, is_listed, is_in_pool, client_checks, ready_checks};
 ghost use Rattle.playback.specs.Named.{fails};
 
-use client::{Client, ClientRecord, READY, SLOTS};
+use client::{Client, ClientRecord, Report, SLOTS};
 use octets::has_bit;
 use octets::label::Label;
 use octets::numbers::Refusal;
@@ -130,7 +130,7 @@ pub fn first_missing(slots: &[Client; SLOTS], steps: &[Step]) -> Option<usize>
 fn is_not_ready(client: &Client, recorded: &ClientRecord) -> bool
     ensures { result ≡ fails ready_checks (client.now, recorded.now) }
 {
-    (recorded.used != 0) & (client.report != READY)
+    (recorded.used != 0) & (client.report != Report::Ready as u8)
 }
 
 // The lowest slot of which 12 does not hold.

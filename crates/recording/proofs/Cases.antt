@@ -22,7 +22,7 @@ use Rattle.recording.specs.Indication.{held_of, step_at, is_step_of, place_of, h
 use Rattle.recording.specs.Promises.{Sound}
 use Rattle.recording.specs.declared.Taken.{Taken}
 use Rattle.recording.specs.declared.Recording.{Recording}
-use Rattle.recording.specs.declared.Heard.{Heard}
+use Rattle.recording.specs.Indication.{Heard}
 
 module _ (r : Recording) (s : Sound r) where
   pub full : length r.steps ≡ 64

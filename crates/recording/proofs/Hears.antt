@@ -20,7 +20,7 @@ use Rattle.recording.specs.Indication.{held_of, step_at, is_open, is_step_of, pl
 use Rattle.recording.specs.Promises.{Sound, Hears, Begun, is_taken_of, start_of}
 use Rattle.recording.specs.declared.Taken.{Taken}
 use Rattle.recording.specs.declared.Recording.{Recording}
-use Rattle.recording.specs.declared.Heard.{Heard}
+use Rattle.recording.specs.Indication.{Heard}
 use Rattle.recording.proofs.Errors.{early, room}
 use Rattle.recording.proofs.Records.{after_there, after_first}
 use Rattle.recording.proofs.Cases.{full, held_count, held_at, held_new, error, refused, step, begun, goes_again, by_cases}

@@ -2,6 +2,7 @@ pub mod Errors
 pub mod Stayed
 pub mod Records
 pub mod Cases
+pub mod Places
 pub mod Steps
 pub mod Sound
 pub mod Hears

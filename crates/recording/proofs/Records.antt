@@ -1,19 +1,16 @@
 -- A client's record is stored with its first step; a loop drops the records of clients of which no step stays, slot after slot.
 use Prim.Native.Nat.{ℕ, suc, ◌+◌, ◌≤◌, ◌<◌}
 use mathlib.Core.Path.{◌≡◌, refl, sym, ap, subst, ◌∙◌}
-use mathlib.Core.Bool.{Bool, true, false, not, ◌||◌, true≢false, or-false, or_comm}
+use mathlib.Core.Bool.{Bool, true, false, not, true≢false}
 use mathlib.Core.List.{List, [], ◌∷◌, ◌++◌, append_assoc, append-nil}
 use native.Mathlib.Numerals.{add-one}
 use native.Mathlib.Omega.{arith}
 use lib.ListN.{take, drop, length, get_or, set, length-set}
-use lib.Seq.{take-suc, take-suc-set, drop-set-lt, drop-cons, drop-length, take-length, get_or-set_same, get_or-set_other}
+use lib.Seq.{take-suc-set, drop-set-lt, drop-cons, drop-length, take-length, get_or-set_same, get_or-set_other}
 use lib.Dec.{eqb, leb}
-use borrow.Author.Tests.{lt-leb, leb-true, leb-false, ne_eqb}
+use borrow.Author.Tests.{lt-leb, leb-true, leb-false}
 use Rattle.octets.specs.Pick.{pick}
-use Rattle.octets.specs.Bits.{with_bit}
-use Rattle.octets.proofs.BitLaws.{has_with, has_none}
 use Rattle.arrays.specs.Arrays.{some}
-use Rattle.arrays.proofs.Every.{some_more}
 use Rattle.arrays.proofs.Pad.{any_default}
 use Rattle.client.specs.Records.{is_used, blank_record, record_of}
 use Rattle.client.specs.declared.ClientRecord.{ClientRecord}
@@ -21,7 +18,7 @@ use Rattle.client.specs.declared.Client.{Client}
 use Rattle.sequence.specs.declared.Step.{Step}
 use Rattle.recording.specs.Indication.{records_after}
 use Rattle.sequence.specs.Sound.{is_of}
-use Rattle.recording.specs.Kept.{HasSlots, record_kept, records_from}
+use Rattle.recording.specs.Kept.{record_kept, records_from}
 
 -- the records when those before slot i are done
 pub halfway : List Step → ℕ → List ClientRecord → List ClientRecord
@@ -45,20 +42,19 @@ module _ (l : List Step) where
       rw (add-one, drop-cons records i d h, take-suc-set records i c h, drop-set-lt (suc i) records i c (omega arith))
       (sym (append_assoc (take i records) (c ∷ []) _))
 
--- ---- the slots of the steps, as bits
+  -- a client of which no step stays
+  pub drops :
+      (i : ℕ) (records : List ClientRecord) → i < length records → some (is_of i) l ≡ false
+      → halfway l i records ≡ halfway l (i + 1) (set records i blank_record)
+  unfolding pick record_kept
+  drops i records h n = one_more i records blank_record h ∙ ap (λ (c : ClientRecord). halfway l (i + 1) (set records i c)) (rw n)
 
-pub no_slots : HasSlots 0 []
-no_slots slot h = has_none slot
-
-module _ (steps : List Step) (d : Step) (bits i : ℕ) (has : HasSlots bits (take i steps)) (k : i < length steps) where
-  more_steps : (slot : ℕ) → some (is_of slot) (take (i + 1) steps) ≡ (some (is_of slot) (take i steps) || is_of slot (get_or steps i d))
-  more_steps slot = rw (add-one, take-suc steps i d k) (some_more (is_of slot) (take i steps) (get_or steps i d))
-
-  pub one_slot : HasSlots (with_bit bits (get_or steps i d).slot) (take (i + 1) steps)
-  one_slot slot h = has_with bits (get_or steps i d).slot slot ∙ rw (has slot h, more_steps slot) (or_comm (is_of slot (get_or steps i d)) (some (is_of slot) (take i steps)))
-
-  pub no_such_slot : 64 ≤ (get_or steps i d).slot → HasSlots bits (take (i + 1) steps)
-  no_such_slot l slot h = has slot h ∙ sym (more_steps slot ∙ rw (ne_eqb (get_or steps i d).slot slot (λ e. omega arith)) (or-false _))
+  -- a client of which one does
+  pub stays_on :
+      (i : ℕ) (records : List ClientRecord) (d : ClientRecord) → i < length records → some (is_of i) l ≡ true
+      → halfway l i records ≡ halfway l (i + 1) (set records i (get_or records i d))
+  unfolding pick record_kept
+  stays_on i records d h n = one_more i records d h ∙ ap (λ (c : ClientRecord). halfway l (i + 1) (set records i c)) (rw n)
 
 is_used_lem : (client : Client) → is_used (record_of client) ≡ true
 unfolding record_of

@@ -1,5 +1,5 @@
 -- 01, "Recording": a tick, and what an E.4 that counts does.
-use Rattle.std.specs.Prelude.{ℕ, ◌+◌, Bool, not, ◌&&◌, ◌||◌, List, eqb, leb, ltb, take, get_or, set}
+use Rattle.std.specs.Prelude.{ℕ, ◌+◌, Bool, not, ◌&&◌, ◌||◌, List, Result, Ok, Err, eqb, leb, ltb, take, get_or, set}
 use Rattle.octets.specs.Pick.{pick}
 use Rattle.profile.specs.{Profile.trigger, Profile.has_state, declared.Profile.Profile}
 use Rattle.message.specs.{Fields.status_number, declared.Execution.Execution}
@@ -7,7 +7,9 @@ use Rattle.arrays.specs.Arrays.{some, first_from, more}
 use Rattle.client.specs.{Clients.slot_count, declared.Client.Client, declared.ClientRecord.ClientRecord}
 use Rattle.client.specs.Records.{is_used, blank_record, record_of}
 use Rattle.sequence.specs.Sequence.{most_steps}
-use Rattle.recording.specs.{State.blank_taken, declared.Taken.Taken, declared.Recording.Recording, declared.Heard.Heard}
+use Rattle.recording.specs.{State.blank_taken, declared.Taken.Taken, declared.Recording.Recording, declared.Held.Held, declared.Error.Error}
+use Rattle.recording.specs.declared.Held.TheVariants.{OneShot, Opened, Done, Failed}
+use Rattle.recording.specs.declared.Error.TheVariants.{UnknownFunction, UnknownState, WrongStatus, Full, Other}
 
 -- the status of a step that is held; a number that is not here is failed
 abbrev pub one_shot : ℕ
@@ -21,6 +23,30 @@ done = 2
 
 abbrev pub failed : ℕ
 failed = 3
+
+abbrev pub held_number : Held → ℕ
+held_number OneShot = one_shot
+held_number Opened = opened
+held_number Done = done
+held_number Failed = failed
+
+-- the errors of E.5
+abbrev pub error_number : Error → ℕ
+error_number UnknownFunction = 0x01
+error_number UnknownState = 0x02
+error_number WrongStatus = 0x03
+error_number Full = 0x04
+error_number Other = 0xFF
+
+-- and 00 where there is none
+abbrev pub answer_number : {T : Type 0} → Result T Error → ℕ
+answer_number (Ok _) = 0x00
+answer_number (Err why) = error_number why
+
+-- the error of E.5, and the recording after the message
+pub record Heard : Type 0 where
+  pub error : ℕ
+  pub recording : Recording
 
 -- the status of an E.4, as its two bits
 abbrev pub status : Execution → ℕ

@@ -1,13 +1,13 @@
 -- 01, "Recording": "When it ends, only one-shot and done steps stay. NAME, master NAME and both labels are kept with each client as its first step is
 -- stored, and dropped if none of its steps stays." "Clients and states": "A recording that keeps no step also keeps the old one."
-use Rattle.std.specs.Prelude.{ℕ, suc, ◌<◌, ◌≡◌, Bool, ◌||◌, List, [], ◌∷◌, map, eqb, length}
-use Rattle.octets.specs.{Pick.pick, Bits.has_bit}
+use Rattle.std.specs.Prelude.{ℕ, suc, Bool, ◌||◌, List, [], ◌∷◌, map, eqb, length}
+use Rattle.octets.specs.Pick.{pick}
 use Rattle.arrays.specs.Arrays.{some, those, pad_to}
-use Rattle.client.specs.{Clients.slot_count, Records.blank_record, declared.ClientRecord.ClientRecord}
+use Rattle.client.specs.{Records.blank_record, declared.ClientRecord.ClientRecord}
 use Rattle.sequence.specs.{Sequence.most_steps, Sequence.blank_step, declared.Step.Step, declared.Sequence.Sequence}
 use Rattle.sequence.specs.{Editions.first_edition, Sound.is_of}
 use Rattle.recording.specs.Indication.{one_shot, done, held_of}
-use Rattle.recording.specs.{declared.Taken.Taken, declared.Recording.Recording, declared.Kept.Kept}
+use Rattle.recording.specs.{declared.Taken.Taken, declared.Recording.Recording}
 
 -- "only one-shot and done steps stay"
 abbrev pub stays : Taken → Bool
@@ -19,14 +19,6 @@ step_in t = t.step
 -- in their order
 abbrev pub stayed : List Taken → List Step
 stayed l = map step_in (those stays l)
-
--- cells after them are blank
-unfoldable pub stored : List Step → Kept
-stored l = record { count = length l; steps = pad_to blank_step most_steps l }
-
--- these bits are the slots of which there is a step
-abbrev pub HasSlots : ℕ → List Step → Type 0
-HasSlots bits l = (slot : ℕ) → slot < slot_count → has_bit bits slot ≡ some (is_of slot) l
 
 -- "dropped if none of its steps stays"
 unfoldable pub record_kept : List Step → ℕ → ClientRecord → ClientRecord

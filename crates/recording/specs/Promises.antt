@@ -10,8 +10,8 @@ use Rattle.client.specs.Records.{is_used, blank_record, record_of}
 use Rattle.sequence.specs.Sequence.{most_steps, by_distance, blank_sequence, steps_of}
 use Rattle.sequence.specs.Sound.{is_of, SoundSequence}
 use Rattle.sequence.specs.{declared.Step.Step, declared.Sequence.Sequence}
-use Rattle.recording.specs.{State.blank_taken, State.blank_recording, declared.Taken.Taken, declared.Recording.Recording, declared.Heard.Heard}
-use Rattle.recording.specs.Indication.{one_shot, opened, is_open, counted_recording, held_of, step_at, is_step_of, is_same, done_with, records_after, heard_of}
+use Rattle.recording.specs.{State.blank_taken, State.blank_recording, declared.Taken.Taken, declared.Recording.Recording}
+use Rattle.recording.specs.Indication.{one_shot, opened, is_open, counted_recording, held_of, step_at, is_step_of, is_same, done_with, records_after, Heard, heard_of}
 use Rattle.recording.specs.Kept.{stays, stayed, kept_sequence}
 
 -- ---- what is always so

@@ -1,31 +1,93 @@
 // Recording: the steps taken so far, what an E.4 does, and what stays at the end.
-#![tactic(auto)]
+// The definitions that the search of proofs opens.
+#![tactic(auto, unfolding(octets::specs::Pick::pick, crate::specs::State::blank_recording, crate::specs::Indication::counted_recording, crate::specs::Indication::has_open, crate::specs::Indication::again_error, crate::specs::Indication::step_after, crate::specs::Indication::heard_again, crate::specs::Indication::error_by, crate::specs::Indication::first_error, crate::specs::Indication::first_value, crate::specs::Indication::new_step, crate::specs::Indication::records_after, crate::specs::Indication::with_new, crate::specs::Indication::heard_first, crate::specs::Kept::record_kept, crate::specs::Kept::kept_sequence))]
 
-ghost use Rattle.std.specs.Prelude.{◌≡◌, ◌<◌, ◌&&◌, ltb, take};
-ghost use Rattle.octets.specs.Pick.{pick};
-ghost use Rattle.octets.specs.Bits.{has_bit};
-ghost use Rattle.arrays.specs.Arrays.{some};
-ghost use Rattle.client.specs.Records.{blank_record};
-ghost use Rattle.recording.specs.State.{blank_taken, blank_recording};
-ghost use Rattle.recording.specs.Indication.{counted_recording, is_open, has_open, is_step_of, place_of, is_same, takes, again_error, done_with, step_after, heard_again, error_by, first_value, new_step, records_after, with_new, heard_first, heard_of};
+ghost use Rattle.std.specs.Prelude.{◌≡◌, ◌≤◌, ◌<◌, length, min};
+ghost use Rattle.std.specs.List.{position};
+ghost use Rattle.std.specs.Option.{unwrap_or, IfSome};
+ghost use Rattle.arrays.specs.Arrays.{some, pad_to};
+ghost use Rattle.message.specs.Fields.{status_number};
+ghost use Rattle.sequence.specs.Sequence.{blank_step};
+ghost use Rattle.sequence.specs.Sound.{is_of};
+ghost use Rattle.sequence.specs.declared.Sequence.{Sequence};
+ghost use Rattle.recording.specs.State.{blank_recording};
+ghost use Rattle.recording.specs.Indication.{held_of, counted_recording, is_open, has_open, is_step_of, is_same, takes, held_number, error_number, answer_number, again_error, done_with, step_after, heard_again, is_known, first_error, first_value, new_step, records_after, with_new, heard_first, heard_of};
 ghost use Rattle.recording.specs.Promises.{Promises};
-ghost use Rattle.recording.specs.Kept.{stays, stayed, stored, HasSlots, records_from, kept_sequence};
+ghost use Rattle.recording.specs.Kept.{stays, stayed, records_from, kept_sequence};
 
 use arrays::{at_most, more};
 use client::{Client, ClientRecord, SLOTS, blank_record};
-use message::Execution;
 use message::fields::status_number;
-use octets::{has_bit, with_bit};
-use sequence::{FIRST_EDITION, MOST_STEPS, Sequence, Step, blank_step};
+use message::{Execution, Status};
+use profile::Profile;
+use sequence::{FIRST_EDITION, MOST_STEPS, Sequence, Step, blank_sequence, blank_step};
 
-// The status of a step that is held. A number that is not here is failed.
-pub const ONE_SHOT: u8 = 0;
+// The status of a step that is held, in the order of its numbers.
+#[derive(Clone, Copy, Debug, PartialEq, Eq)]
+pub enum Held {
+    OneShot = 0,
+    Opened = 1,
+    Done = 2,
+    Failed = 3,
+}
 
-pub const OPENED: u8 = 1;
+// A number that is not here is failed.
+impl From<u8> for Held {
+    ghost use Rattle.recording.specs.Indication.{held_number};
 
-pub const STEP_DONE: u8 = 2;
+    ghost from_gives = { λ status held. held_number held ≡ min status 3 };
 
-pub const FAILED: u8 = 3;
+    fn from(status: u8) -> Held {
+        match status {
+            0 => Held::OneShot,
+            1 => Held::Opened,
+            2 => Held::Done,
+            3..=255 => Held::Failed,
+        }
+    }
+}
+
+impl Held {
+    // Whether a step of this status takes a message of that one.
+    fn takes(self, status: Status) -> bool
+        ensures { result ≡ takes (held_number self) (status_number status) }
+    {
+        match self {
+            Held::OneShot => matches!(status, Status::AtOnce),
+            Held::Opened => !matches!(status, Status::AtOnce),
+            Held::Done => matches!(status, Status::Started | Status::Done),
+            Held::Failed => matches!(status, Status::Started | Status::Failed),
+        }
+    }
+}
+
+// Why a message is answered otherwise than by 00: the errors of E.5.
+#[derive(Clone, Copy, Debug, PartialEq, Eq)]
+pub enum Error {
+    UnknownFunction = 0x01,
+    UnknownState = 0x02,
+    WrongStatus = 0x03,
+    Full = 0x04,
+    Other = 0xFF,
+}
+
+impl Error {
+    fn number(self) -> u8
+        ensures { result ≡ error_number self }
+    {
+        self as u8
+    }
+}
+
+// The error of E.5: 00 where there is none.
+pub fn number_of(answer: Result<(), Error>) -> u8
+    ensures { result ≡ answer_number answer }
+{
+    match answer {
+        Ok(()) => 0x00,
+        Err(why) => why.number(),
+    }
+}
 
 // A step that is held, its TAN and its status.
 #[repr(C)]
@@ -47,415 +109,297 @@ pub struct Recording {
     pub records: [ClientRecord; SLOTS],
 }
 
-// The error of E.5, and the recording after the message.
-#[derive(Clone, Copy)]
-pub struct Heard {
-    pub error: u8,
-    pub recording: Recording,
-}
-
-// The steps that stay: the first count of steps.
-#[derive(Clone, Copy)]
-struct Kept {
-    count: usize,
-    steps: [Step; MOST_STEPS],
-}
-
 pub fn blank_recording() -> Recording
     ensures { result ≡ blank_recording }
 {
-    let step = blank_step();
-    let client = blank_record();
     let taken = Taken {
-        step,
+        step: blank_step(),
         tan: 0,
         status: 0,
     };
-    let steps = [taken; MOST_STEPS];
-    let records = [client; SLOTS];
     Recording {
         ticks: 0,
         distance: 0,
         count: 0,
-        steps,
-        records,
+        steps: [taken; MOST_STEPS],
+        records: [blank_record(); SLOTS],
     }
 }
 
-fn is_open(taken: Taken) -> bool
-    ensures { result ≡ is_open taken }
-{
-    taken.status == OPENED
-}
+impl Taken {
+    fn is_open(&self) -> bool
+        ensures { result ≡ is_open self.now }
+    {
+        Held::from(self.status) == Held::Opened
+    }
 
-fn some_open(steps: [Taken; MOST_STEPS], count: usize) -> bool
-    ensures { result ≡ some is_open (take count steps) }
-{
-    let end = at_most(count, MOST_STEPS);
-    let mut i: usize = 0;
-    while i < end {
-        if is_open(steps[i]) {
-            return true;
+    fn does_stay(&self) -> bool
+        ensures { result ≡ stays self.now }
+    {
+        matches!(Held::from(self.status), Held::OneShot | Held::Done)
+    }
+
+    fn is_step_of(&self, slot: u8, tan: u8) -> bool
+        ensures { result ≡ is_step_of slot tan self.now }
+    {
+        (self.step.slot, self.tan) == (slot, tan)
+    }
+
+    fn is_same(&self, e: Execution) -> bool
+        ensures { result ≡ is_same self.now e }
+    {
+        (self.step.function, self.step.state) == (e.function, e.state)
+    }
+
+    // The answer to a message of this step.
+    fn again_error(&self, e: Execution) -> Result<(), Error>
+        ensures { answer_number result ≡ again_error self.now e }
+    {
+        if !self.is_same(e) || !Held::from(self.status).takes(e.status) {
+            return Err(Error::WrongStatus);
         }
-        i += 1;
-    }
-    false
-}
-
-fn is_step_of(taken: Taken, slot: u8, tan: u8) -> bool
-    ensures { result ≡ is_step_of slot tan taken }
-{
-    (taken.step.slot == slot) & (taken.tan == tan)
-}
-
-// The number of this client's step with this TAN, 64 where none is held.
-fn find(steps: [Taken; MOST_STEPS], count: usize, slot: u8, tan: u8) -> usize
-    ensures { result ≡ place_of steps count slot tan }
-{
-    let end = at_most(count, MOST_STEPS);
-    let mut i: usize = 0;
-    while i < end {
-        if is_step_of(steps[i], slot, tan) {
-            return i;
+        match e.status {
+            Status::Failed => Err(Error::Other),
+            _ => Ok(()),
         }
-        i += 1;
     }
-    MOST_STEPS
-}
 
-fn is_same(taken: Taken, e: Execution) -> bool
-    ensures { result ≡ is_same taken e }
-{
-    (taken.step.function == e.function) & (taken.step.state == e.state)
-}
-
-// Whether a step of this status takes a message of that one.
-fn does_take(held: u8, s: u8) -> bool
-    ensures { result ≡ takes held s }
-{
-    ((held == ONE_SHOT) & (s == 0b00))
-        | ((held == OPENED) & ((s == 0b01) | (s == 0b10) | (s == 0b11)))
-        | ((held == STEP_DONE) & ((s == 0b01) | (s == 0b10)))
-        | ((STEP_DONE < held) & ((s == 0b01) | (s == 0b11)))
-}
-
-// The answer to a message of a step that is held.
-fn again_error(taken: Taken, e: Execution) -> u8
-    ensures { result ≡ again_error taken e }
-{
-    let bits = e.status;
-    let status = status_number(bits);
-    if !is_same(taken, e) {
-        return 0x03;
+    // The step, done with this value.
+    fn done_with(&self, value: u32) -> Taken
+        ensures { result ≡ done_with self.now value }
+    {
+        Taken {
+            step: Step { value, ..self.step },
+            status: Held::Done as u8,
+            ..*self
+        }
     }
-    if !does_take(taken.status, status) {
-        return 0x03;
-    }
-    if status != 0b11 {
-        return 0x00;
-    }
-    0xFF
-}
 
-// The step, done with this value.
-fn done_with(taken: Taken, value: u32) -> Taken
-    ensures { result ≡ done_with taken value }
-{
-    let step = Step {
-        slot: taken.step.slot,
-        function: taken.step.function,
-        state: taken.step.state,
-        distance: taken.step.distance,
-        value,
-        mark: taken.step.mark,
-    };
-    Taken {
-        step,
-        tan: taken.tan,
-        status: STEP_DONE,
+    // What a message of this step changes in it.
+    fn change(&mut self, e: Execution)
+        ensures { self.new ≡ step_after self.old e }
+    {
+        if !(self.is_same(e) & self.is_open()) {
+            return;
+        }
+        match e.status {
+            Status::AtOnce | Status::Started => {}
+            Status::Done => *self = self.done_with(e.value),
+            Status::Failed => self.status = Held::Failed as u8,
+        }
     }
 }
 
-// The step after a message of it.
-fn step_after(taken: Taken, e: Execution) -> Taken
-    ensures { result ≡ step_after taken e }
+// Whether the loaded pool lists the function with this state.
+fn is_known(profile: &Profile, e: Execution) -> bool
+    ensures { result ≡ is_known profile.now e }
 {
-    let bits = e.status;
-    let status = status_number(bits);
-    let mut after = taken;
-    if !(is_same(taken, e) & is_open(taken)) {
-        return taken;
-    }
-    if status == 0b10 {
-        return done_with(taken, e.value);
-    }
-    if status == 0b11 {
-        after.status = FAILED;
-        return after;
-    }
-    taken
-}
-
-// Whether the loaded pool lists the function with this state, by the function's states in it.
-fn is_known(states: u64, state: u8) -> bool
-    ensures { result ≡ (ltb state 64 && has_bit states state) }
-{
-    if state < 64 {
-        return has_bit(states, state as u64);
-    }
-    false
-}
-
-// The answer to a message of a step that is not held.
-fn first_error(trigger: u8, known: bool, complete: bool, count: usize, status: u8) -> u8
-    ensures { result ≡ error_by trigger known complete count status }
-{
-    if trigger == 0 {
-        return 0x01;
-    }
-    if !known {
-        return 0x02;
-    }
-    if (status == 0b10) | (status == 0b11) {
-        return 0x03;
-    }
-    if complete {
-        return 0xFF;
-    }
-    if MOST_STEPS <= count {
-        return 0x04;
-    }
-    0x00
+    e.state < 64 && profile.has_state(e.function, e.state)
 }
 
 // The value of a new step: that of the message where it says that the step is done.
-fn first_value(status: u8, value: u32) -> u32
-    ensures { result ≡ first_value status value }
+fn first_value(e: Execution) -> u32
+    ensures { result ≡ first_value (status_number e.status) e.value }
 {
-    if status == 0b00 {
-        return value;
+    match e.status {
+        Status::AtOnce => e.value,
+        _ => 0,
     }
-    0
 }
 
-// The clients' records after a step of this slot is stored.
-fn records_after(records: [ClientRecord; SLOTS], slot: u8, client: Client) -> [ClientRecord; SLOTS]
-    ensures { result ≡ records_after records slot client }
+// A client's record is stored with its first step.
+fn keep_record(records: &mut [ClientRecord; SLOTS], slot: u8, client: &Client)
+    ensures { records.new ≡ records_after records.old slot client.now }
 {
     let at = slot as usize;
-    if SLOTS <= at {
-        return records;
+    if at < SLOTS && records[at].used == 0 {
+        records[at] = client.kept_record();
     }
-    let old = records[at];
-    if old.used != 0 {
-        return records;
-    }
-    let mut after = records;
-    let new = client.kept_record();
-    after[at] = new;
-    after
 }
 
-// The slots of which a step stays, as bits.
-fn slots_of(steps: [Step; MOST_STEPS], count: usize) -> u64
-    ensures { HasSlots result (take count steps) }
+// Some step is of this slot.
+fn has_step(steps: &[Step], slot: usize) -> bool
+    ensures { result ≡ some (is_of slot) steps.now }
 {
-    let end = at_most(count, MOST_STEPS);
-    let mut bits: u64 = 0;
-    let mut i: usize = 0;
-    while i < end {
-        let slot = steps[i].slot;
-        i += 1;
-        if slot < 64 {
-            bits = with_bit(bits, slot as u64);
+    steps.iter().any(|step| step.slot as usize == slot)
+}
+
+// The records of clients of which no step stays are dropped.
+fn drop_records(records: &mut [ClientRecord; SLOTS], steps: &[Step])
+    ensures { records.new ≡ records_from steps.now 0 records.old }
+{
+    for (slot, record) in records.iter_mut().enumerate() {
+        if !has_step(steps, slot) {
+            *record = blank_record();
         }
     }
-    bits
 }
 
-fn record_kept(stays: bool, client: ClientRecord) -> ClientRecord
-    ensures { result ≡ pick stays client blank_record }
+// The steps that stay, in their order: as a sequence that has no edition and no records yet.
+fn kept_steps(taken: &[Taken]) -> Sequence
+    requires { length taken.now ≤ 64 }
+    ensures few { result.count ≤ 64 }
+    ensures count { result.count ≡ length (stayed taken.now) }
+    ensures steps { result.steps ≡ pad_to blank_step 64 (stayed taken.now) }
 {
-    if stays {
-        return client;
-    }
-    blank_record()
-}
-
-// The records of the clients of which a step stays.
-fn records_of(
-    steps: [Step; MOST_STEPS],
-    count: usize,
-    records: [ClientRecord; SLOTS],
-) -> [ClientRecord; SLOTS]
-    ensures { result ≡ records_from (take count steps) 0 records }
-{
-    let bits = slots_of(steps, count);
-    let mut after = records;
-    let mut i: usize = 0;
-    while i < SLOTS {
-        after[i] = record_kept(has_bit(bits, i as u64), after[i]);
-        i += 1;
-    }
-    after
-}
-
-fn does_stay(taken: Taken) -> bool
-    ensures { result ≡ stays taken }
-{
-    (taken.status == ONE_SHOT) | (taken.status == STEP_DONE)
-}
-
-fn kept_steps(taken: [Taken; MOST_STEPS], count: usize) -> Kept
-    ensures { result ≡ stored (stayed (take count taken)) }
-{
-    let end = at_most(count, MOST_STEPS);
-    let blank = blank_step();
-    let mut steps = [blank; MOST_STEPS];
-    let mut n: usize = 0;
-    let mut i: usize = 0;
-    while i < end {
-        let t = taken[i];
-        if !does_stay(t) {
-            i += 1;
-            continue;
+    let mut kept = blank_sequence();
+    for t in taken {
+        if t.does_stay() {
+            kept.steps[kept.count] = t.step;
+            kept.count += 1;
         }
-        let step = t.step;
-        steps[n] = step;
-        n += 1;
-        i += 1;
     }
-    Kept { count: n, steps }
+    kept
 }
 
 impl Recording {
     // A tick and its millimetres are counted.
-    pub fn counted(mut self, mm: u32) -> Recording
-        ensures { result ≡ counted_recording self mm }
+    pub fn counted(&mut self, mm: u32)
+        ensures { self.new ≡ counted_recording self.old mm }
     {
         self.ticks = more(self.ticks, 1);
         self.distance = more(self.distance, mm);
-        self
+    }
+
+    // The steps that are held.
+    fn used(&self) -> &[Taken]
+        ensures { result.now ≡ held_of self.now }
+    {
+        &self.steps[..at_most(self.count, MOST_STEPS)]
     }
 
     // Some step is open.
-    pub fn has_open(self) -> bool
-        ensures { result ≡ has_open self }
+    pub fn has_open(&self) -> bool
+        ensures { result ≡ has_open self.now }
     {
-        let steps = self.steps;
-        some_open(steps, self.count)
+        self.used().iter().any(|taken| taken.is_open())
+    }
+
+    // The number of this client's step with this TAN.
+    fn find(&self, slot: u8, tan: u8) -> Option<usize>
+        ensures value { result ≡ position (is_step_of slot tan) (held_of self.now) }
+        ensures within { IfSome result (λ i. i < 64) }
+    {
+        self.used()
+            .iter()
+            .position(|taken| taken.is_step_of(slot, tan))
     }
 
     // A message of the step i, which is held.
-    fn again(mut self, i: usize, e: Execution) -> Heard
+    fn again(&mut self, i: usize, e: Execution) -> Result<(), Error>
         requires { i < 64 }
-        ensures { result ≡ heard_again self i e }
+        ensures value { answer_number result ≡ (heard_again self.old i e).error }
+        ensures after { self.new ≡ (heard_again self.old i e).recording }
     {
-        let taken = self.steps[i];
-        let error = again_error(taken, e);
-        self.steps[i] = step_after(taken, e);
-        Heard {
-            error,
-            recording: self,
-        }
+        let taken = &mut self.steps[i];
+        let answer = taken.again_error(e);
+        taken.change(e);
+        answer
     }
 
-    // A new step; status is that of the message.
-    fn new_step(self, trigger: u8, slot: u8, e: Execution) -> Taken
-        ensures { result ≡ new_step self trigger slot e }
+    // The answer to a message of a step that is not held.
+    fn first_error(&self, profile: &Profile, complete: bool, e: Execution) -> Result<(), Error>
+        ensures { answer_number result ≡ first_error profile.now complete self.now.count e }
     {
-        let bits = e.status;
-        let status = status_number(bits);
-        let mut step = Step {
+        if profile.trigger_of(e.function) == 0 {
+            return Err(Error::UnknownFunction);
+        }
+        if !is_known(profile, e) {
+            return Err(Error::UnknownState);
+        }
+        if matches!(e.status, Status::Done | Status::Failed) {
+            return Err(Error::WrongStatus);
+        }
+        if complete {
+            return Err(Error::Other);
+        }
+        if MOST_STEPS <= self.count {
+            return Err(Error::Full);
+        }
+        Ok(())
+    }
+
+    // A new step.
+    fn new_step(&self, trigger: u8, slot: u8, e: Execution) -> Taken
+        ensures { result ≡ new_step self.now trigger slot e }
+    {
+        let (distance, mark) = if trigger == 2 {
+            (1, self.distance)
+        } else {
+            (0, self.ticks)
+        };
+        let step = Step {
             slot,
             function: e.function,
             state: e.state,
-            distance: 0,
-            value: first_value(status, e.value),
-            mark: self.ticks,
+            distance,
+            value: first_value(e),
+            mark,
         };
-        if trigger == 2 {
-            step.distance = 1;
-            step.mark = self.distance;
-            return Taken {
-                step,
-                tan: e.tan,
-                status,
-            };
-        }
         Taken {
             step,
             tan: e.tan,
-            status,
+            status: status_number(e.status),
         }
     }
 
     // A step is stored after the others, and its client's record with its first.
-    fn with_new(mut self, taken: Taken, client: Client) -> Recording
-        requires { self.count < 64 }
-        ensures { result ≡ with_new self taken client }
+    fn add(&mut self, taken: Taken, client: &Client)
+        requires { self.old.count < 64 }
+        ensures { self.new ≡ with_new self.old taken client.now }
     {
-        let count = self.count;
-        let records = self.records;
-        let after = records_after(records, taken.step.slot, client);
-        self.steps[count] = taken;
-        self.count = count + 1;
-        self.records = after;
-        self
+        self.steps[self.count] = taken;
+        self.count += 1;
+        keep_record(&mut self.records, taken.step.slot, client);
     }
 
     // A message of a step that is not held.
-    fn first(self, slot: u8, client: Client, complete: bool, e: Execution) -> Heard
-        ensures { result ≡ heard_first self slot client complete e }
+    fn first(
+        &mut self,
+        slot: u8,
+        client: &Client,
+        complete: bool,
+        e: Execution,
+    ) -> Result<(), Error>
+        ensures value { answer_number result ≡ (heard_first self.old slot client.now complete e).error }
+        ensures after { self.new ≡ (heard_first self.old slot client.now complete e).recording }
     {
-        let profile = client.profile;
-        let at = e.function as usize;
-        let trigger = profile.trigger[at];
-        let known = is_known(profile.states[at], e.state);
-        let bits = e.status;
-        let error = first_error(trigger, known, complete, self.count, status_number(bits));
-        if error != 0x00 {
-            return Heard {
-                error,
-                recording: self,
-            };
-        }
+        self.first_error(&client.profile, complete, e)?;
+        let trigger = client.profile.trigger_of(e.function);
         let taken = self.new_step(trigger, slot, e);
-        Heard {
-            error: 0x00,
-            recording: self.with_new(taken, client),
-        }
+        self.add(taken, client);
+        Ok(())
     }
 
     // An E.4 that counts; complete: the master is in record complete.
-    pub fn heard(self, slot: u8, client: Client, complete: bool, e: Execution) -> Heard
-        ensures { result ≡ heard_of self slot client complete e }
+    pub fn heard(
+        &mut self,
+        slot: u8,
+        client: &Client,
+        complete: bool,
+        e: Execution,
+    ) -> Result<(), Error>
+        ensures value { answer_number result ≡ (heard_of self.old slot client.now complete e).error }
+        ensures after { self.new ≡ (heard_of self.old slot client.now complete e).recording }
     {
-        let steps = self.steps;
-        let i = find(steps, self.count, slot, e.tan);
-        if i < MOST_STEPS {
-            return self.again(i, e);
+        match self.find(slot, e.tan) {
+            Some(i) => self.again(i, e),
+            None => self.first(slot, client, complete, e),
         }
-        self.first(slot, client, complete, e)
     }
 
-    // The sequence after the end: the steps that stay, with their clients' records, in edition 1; the old one where none stays.
-    pub fn kept(self, old: Sequence) -> Sequence
-        ensures { result ≡ kept_sequence self old }
+    // The sequence after the end: the steps that stay, with their clients' records, in edition 1. None: no step stays, and the old sequence does.
+    pub fn kept(&self) -> Option<Sequence>
+        ensures { (old : Sequence) → unwrap_or result old ≡ kept_sequence self.now old }
     {
-        let taken = self.steps;
-        let kept = kept_steps(taken, self.count);
+        let mut kept = kept_steps(self.used());
         if kept.count == 0 {
-            return old;
+            return None;
         }
-        let steps = kept.steps;
-        let records = self.records;
-        Sequence {
-            count: kept.count,
-            edition: FIRST_EDITION,
-            steps,
-            records: records_of(steps, kept.count, records),
-        }
+        kept.edition = FIRST_EDITION;
+        kept.records = self.records;
+        drop_records(&mut kept.records, &kept.steps[..kept.count]);
+        Some(kept)
     }
 }
 

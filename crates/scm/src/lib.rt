@@ -1,5 +1,5 @@
 // The calls that include/scm.h declares: each hands its numbers and slices to a crate below and says what that crate's definition says. Crate scm_c
-// exports each to C under its name.
+// exports each to C under its name, with the same body: a call through this crate would copy the master once more.
 #![tactic(auto)]
 
 ghost use Rattle.std.specs.Prelude.{◌≡◌, [], length};
@@ -45,7 +45,7 @@ use sequence::Sequence;
 use shown::Shown;
 
 // 2.1.1: major * 1,000,000 + minor * 1,000 + patch.
-const VERSION: u32 = 2001001;
+pub const VERSION: u32 = 2001001;
 
 pub fn scm_version() -> u32
     ensures { result ≡ version }
@@ -294,19 +294,19 @@ pub fn scm_master_step_count(sequence: Sequence) -> usize
 pub fn scm_master_sequence_edition(sequence: Sequence) -> u32
     ensures { result ≡ edition_of sequence }
 {
-    master::readers::edition_of(sequence)
+    master::readers::edition_of(&sequence)
 }
 
 pub fn scm_master_step(sequence: Sequence, i: usize) -> StepView
     ensures { result ≡ step_view sequence i }
 {
-    master::readers::step_at(sequence, i)
+    master::readers::step_at(&sequence, i)
 }
 
 pub fn scm_master_client(sequence: Sequence, slot: usize) -> ClientView
     ensures { result ≡ client_view sequence slot }
 {
-    master::readers::client_at(sequence, slot)
+    master::readers::client_at(&sequence, slot)
 }
 
 pub fn scm_master_verify(master: Master) -> Named
@@ -318,17 +318,17 @@ pub fn scm_master_verify(master: Master) -> Named
 pub fn scm_master_progress(state: u8, recording: Recording, playback: Playback) -> Progress
     ensures { result ≡ progress_of state recording playback }
 {
-    master::readers::progress_of(state, recording, playback)
+    master::readers::progress_of(state, &recording, &playback)
 }
 
 pub fn scm_master_taken(recording: Recording, i: usize) -> TakenView
     ensures { result ≡ taken_view recording i }
 {
-    master::readers::taken_at(recording, i)
+    master::readers::taken_at(&recording, i)
 }
 
 pub fn scm_master_sent(playback: Playback, i: usize) -> SentView
     ensures { result ≡ sent_view playback i }
 {
-    master::readers::sent_at(playback, i)
+    master::readers::sent_at(&playback, i)
 }

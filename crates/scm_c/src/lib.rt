@@ -1,4 +1,5 @@
-// The calls for C, as include/scm.h declares them: each is the function of crate scm of its name, with the same contract. This crate is libscm.a.
+// The calls for C, as include/scm.h declares them: each is the function of crate scm of its name, with the same contract and the same body, word for word,
+// since a call through scm would copy the master once more. The gate sees that the two agree. This crate is libscm.a.
 #![tactic(auto)]
 
 ghost use Rattle.std.specs.Prelude.{◌≡◌, [], length};
@@ -40,6 +41,7 @@ use printed::Printed;
 use profile::Profile;
 use recording::Recording;
 use rewrite::Rewritten;
+use scm::VERSION;
 use sequence::Sequence;
 use shown::Shown;
 
@@ -47,21 +49,21 @@ use shown::Shown;
 pub extern "C" fn scm_version() -> u32
     ensures { result ≡ version }
 {
-    scm::scm_version()
+    VERSION
 }
 
 #[unsafe(no_mangle)]
 pub extern "C" fn scm_pool_check(bytes: &[u8]) -> Verdict
     ensures { result ≡ verdict_of bytes.now }
 {
-    scm::scm_pool_check(bytes)
+    pool::check(bytes)
 }
 
 #[unsafe(no_mangle)]
 pub extern "C" fn scm_profile_of(bytes: &[u8]) -> Profile
     ensures { result ≡ profile_of bytes.now }
 {
-    scm::scm_profile_of(bytes)
+    profile::profile_of(bytes)
 }
 
 // The object at a place of a pool.
@@ -69,7 +71,7 @@ pub extern "C" fn scm_profile_of(bytes: &[u8]) -> Profile
 pub extern "C" fn scm_object_at(bytes: &[u8], place: usize) -> FlatObject
     ensures { result ≡ flat_object place (found_at bytes.now place) }
 {
-    scm::scm_object_at(bytes, place)
+    flat_object::object_at(bytes, place)
 }
 
 // The bytes of an object, at a place of the lent buffer.
@@ -82,7 +84,7 @@ pub extern "C" fn scm_write_object(
     ensures value { result ≡ write_answer (object_from object) out.old place }
     ensures out_after { out.new ≡ write_out (object_from object) out.old place }
 {
-    scm::scm_write_object(object, place, out)
+    flat_object::write(object, place, out)
 }
 
 // A pool taken apart and written again.
@@ -91,7 +93,7 @@ pub extern "C" fn scm_pool_rewrite(bytes: &[u8], out: &mut [u8]) -> Rewritten
     ensures value { result ≡ rewrite_answer bytes.now out.old }
     ensures out_after { out.new ≡ rewrite_out bytes.now out.old }
 {
-    scm::scm_pool_rewrite(bytes, out)
+    rewrite::rewrite(bytes, out)
 }
 
 // What bytes that a side sent say: side 0 is a client, 1 the master.
@@ -99,7 +101,7 @@ pub extern "C" fn scm_pool_rewrite(bytes: &[u8], out: &mut [u8]) -> Rewritten
 pub extern "C" fn scm_read(side: u32, bytes: &[u8]) -> FlatReading
     ensures { result ≡ reading_of side bytes.now }
 {
-    scm::scm_read(side, bytes)
+    flat::read(side, bytes)
 }
 
 #[unsafe(no_mangle)]
@@ -107,7 +109,7 @@ pub extern "C" fn scm_write(message: Flat, out: &mut [u8]) -> Written
     ensures value { result ≡ written_of (message_from message) message.label [] (length out.old) }
     ensures out_after { out.new ≡ written_over (message_from message) message.label [] out.old }
 {
-    scm::scm_write(message, out)
+    flat::write(message, out)
 }
 
 #[unsafe(no_mangle)]
@@ -115,7 +117,7 @@ pub extern "C" fn scm_write_transfer(pool: &[u8], out: &mut [u8]) -> Written
     ensures value { result ≡ written_of Transfer blank pool.now (length out.old) }
     ensures out_after { out.new ≡ written_over Transfer blank pool.now out.old }
 {
-    scm::scm_write_transfer(pool, out)
+    message::write_transfer(pool, out)
 }
 
 #[unsafe(no_mangle)]
@@ -123,7 +125,7 @@ pub extern "C" fn scm_shown_of(value: u32, offset: i32, scale: f32) -> Shown
     ensures value { result ≡ shown_of value offset scale }
     ensures exact { Exact value offset scale result }
 {
-    scm::scm_shown_of(value, offset, scale)
+    shown::shown_of(value, offset, scale)
 }
 
 #[unsafe(no_mangle)]
@@ -131,7 +133,7 @@ pub extern "C" fn scm_shown_bits(value: u32, offset: i32, scale: u32) -> Shown
     ensures value { result ≡ shown_of value offset (of_bits binary32 scale) }
     ensures exact { Exact value offset (of_bits binary32 scale) result }
 {
-    scm::scm_shown_bits(value, offset, scale)
+    shown::shown_bits(value, offset, scale)
 }
 
 // The shown value as text.
@@ -145,7 +147,7 @@ pub extern "C" fn scm_write_shown(
 ) -> Printed
     ensures { Prints value offset scale decimals out.old out.new result }
 {
-    scm::scm_write_shown(value, offset, scale, decimals, out)
+    printed::print(value, offset, scale, decimals, out)
 }
 
 // ---- The master: each event takes the old state and gives back the new one.
@@ -154,28 +156,28 @@ pub extern "C" fn scm_write_shown(
 pub extern "C" fn scm_master_new() -> Master
     ensures { result ≡ new_master }
 {
-    scm::scm_master_new()
+    Master::new()
 }
 
 #[unsafe(no_mangle)]
 pub extern "C" fn scm_master_on(master: Master) -> Outcome
     ensures { result ≡ outcome_of master (on_call master) }
 {
-    scm::scm_master_on(master)
+    master.on()
 }
 
 #[unsafe(no_mangle)]
 pub extern "C" fn scm_master_off(master: Master) -> Outcome
     ensures { result ≡ outcome_of master (off_call master) }
 {
-    scm::scm_master_off(master)
+    master.off()
 }
 
 #[unsafe(no_mangle)]
 pub extern "C" fn scm_master_attach(master: Master, slot: usize, name: u64, pool: &[u8]) -> Outcome
     ensures { result ≡ outcome_of master (attach_call master slot name pool.now) }
 {
-    scm::scm_master_attach(master, slot, name, pool)
+    master.attach(slot, name, pool)
 }
 
 // E.2 out.
@@ -184,7 +186,7 @@ pub extern "C" fn scm_master_enable(master: Master, slot: usize, out: &mut [u8])
     ensures value { result ≡ outcome_of master (want_call 1 master slot out.old) }
     ensures out_after { out.new ≡ leaves_of (want_call 1 master slot out.old) }
 {
-    scm::scm_master_enable(master, slot, out)
+    master.enable(slot, out)
 }
 
 // E.2 out.
@@ -193,42 +195,42 @@ pub extern "C" fn scm_master_disable(master: Master, slot: usize, out: &mut [u8]
     ensures value { result ≡ outcome_of master (want_call 0 master slot out.old) }
     ensures out_after { out.new ≡ leaves_of (want_call 0 master slot out.old) }
 {
-    scm::scm_master_disable(master, slot, out)
+    master.disable(slot, out)
 }
 
 #[unsafe(no_mangle)]
 pub extern "C" fn scm_master_report(master: Master, slot: usize, report: u32) -> Outcome
     ensures { result ≡ outcome_of master (report_call master slot report) }
 {
-    scm::scm_master_report(master, slot, report)
+    master.report(slot, report)
 }
 
 #[unsafe(no_mangle)]
 pub extern "C" fn scm_master_lost(master: Master, slot: usize) -> Outcome
     ensures { result ≡ outcome_of master (lost_call master slot) }
 {
-    scm::scm_master_lost(master, slot)
+    master.lost(slot)
 }
 
 #[unsafe(no_mangle)]
 pub extern "C" fn scm_master_record(master: Master) -> Outcome
     ensures { result ≡ outcome_of master (record_call master) }
 {
-    scm::scm_master_record(master)
+    master.record()
 }
 
 #[unsafe(no_mangle)]
 pub extern "C" fn scm_master_stop(master: Master) -> Outcome
     ensures { result ≡ outcome_of master (stop_call master) }
 {
-    scm::scm_master_stop(master)
+    master.stop()
 }
 
 #[unsafe(no_mangle)]
 pub extern "C" fn scm_master_cancel(master: Master) -> Outcome
     ensures { result ≡ outcome_of master (cancel_call master) }
 {
-    scm::scm_master_cancel(master)
+    master.cancel()
 }
 
 // E.4 in, E.5 out.
@@ -242,7 +244,7 @@ pub extern "C" fn scm_master_indication(
     ensures value { result ≡ outcome_of master (indication_call master slot msg.now out.old) }
     ensures out_after { out.new ≡ leaves_of (indication_call master slot msg.now out.old) }
 {
-    scm::scm_master_indication(master, slot, msg, out)
+    master.indication(slot, msg, out)
 }
 
 // E.3 in.
@@ -250,21 +252,21 @@ pub extern "C" fn scm_master_indication(
 pub extern "C" fn scm_master_client_abort(master: Master, slot: usize, msg: &[u8]) -> Outcome
     ensures { result ≡ outcome_of master (client_abort_call master slot msg.now) }
 {
-    scm::scm_master_client_abort(master, slot, msg)
+    master.client_abort(slot, msg)
 }
 
 #[unsafe(no_mangle)]
 pub extern "C" fn scm_master_start(master: Master) -> Outcome
     ensures { result ≡ outcome_of master (start_call master) }
 {
-    scm::scm_master_start(master)
+    master.start()
 }
 
 #[unsafe(no_mangle)]
 pub extern "C" fn scm_master_abort(master: Master) -> Outcome
     ensures { result ≡ outcome_of master (abort_call master) }
 {
-    scm::scm_master_abort(master)
+    master.abort()
 }
 
 // The frames out: the slot and E.6.
@@ -273,7 +275,7 @@ pub extern "C" fn scm_master_tick(master: Master, mm: u32, out: &mut [u8]) -> Ou
     ensures value { result ≡ outcome_of master (tick_call master mm out.old) }
     ensures out_after { out.new ≡ leaves_of (tick_call master mm out.old) }
 {
-    scm::scm_master_tick(master, mm, out)
+    master.tick(mm, out)
 }
 
 // E.7 in, E.8 out.
@@ -287,7 +289,7 @@ pub extern "C" fn scm_master_answer(
     ensures value { result ≡ outcome_of master (answer_call master slot msg.now out.old) }
     ensures out_after { out.new ≡ leaves_of (answer_call master slot msg.now out.old) }
 {
-    scm::scm_master_answer(master, slot, msg, out)
+    master.answer(slot, msg, out)
 }
 
 // The sequence's blocks out.
@@ -296,21 +298,21 @@ pub extern "C" fn scm_master_store(master: Master, blocks: &mut [u8]) -> Outcome
     ensures value { result ≡ outcome_of master (store_call master blocks.old) }
     ensures blocks_after { blocks.new ≡ leaves_of (store_call master blocks.old) }
 {
-    scm::scm_master_store(master, blocks)
+    master.store(blocks)
 }
 
 #[unsafe(no_mangle)]
 pub extern "C" fn scm_master_load(master: Master, blocks: &[u8]) -> Outcome
     ensures { result ≡ outcome_of master (load_call master blocks.now) }
 {
-    scm::scm_master_load(master, blocks)
+    master.load(blocks)
 }
 
 #[unsafe(no_mangle)]
 pub extern "C" fn scm_master_edition(master: Master, edition: u32) -> Outcome
     ensures { result ≡ outcome_of master (edition_call master edition) }
 {
-    scm::scm_master_edition(master, edition)
+    master.edition(edition)
 }
 
 // ---- The readers: each takes the part of the master that it reads, or the whole where it reads the slots.
@@ -319,49 +321,49 @@ pub extern "C" fn scm_master_edition(master: Master, edition: u32) -> Outcome
 pub extern "C" fn scm_master_state(state: u8) -> u8
     ensures { result ≡ state_of state }
 {
-    scm::scm_master_state(state)
+    master::readers::state_of(state)
 }
 
 #[unsafe(no_mangle)]
 pub extern "C" fn scm_master_slot(master: Master, slot: usize) -> SlotView
     ensures { result ≡ slot_view master slot }
 {
-    scm::scm_master_slot(master, slot)
+    master.slot(slot)
 }
 
 #[unsafe(no_mangle)]
 pub extern "C" fn scm_master_step_count(sequence: Sequence) -> usize
     ensures { result ≡ length_of sequence }
 {
-    scm::scm_master_step_count(sequence)
+    sequence.len()
 }
 
 #[unsafe(no_mangle)]
 pub extern "C" fn scm_master_sequence_edition(sequence: Sequence) -> u32
     ensures { result ≡ edition_of sequence }
 {
-    scm::scm_master_sequence_edition(sequence)
+    master::readers::edition_of(&sequence)
 }
 
 #[unsafe(no_mangle)]
 pub extern "C" fn scm_master_step(sequence: Sequence, i: usize) -> StepView
     ensures { result ≡ step_view sequence i }
 {
-    scm::scm_master_step(sequence, i)
+    master::readers::step_at(&sequence, i)
 }
 
 #[unsafe(no_mangle)]
 pub extern "C" fn scm_master_client(sequence: Sequence, slot: usize) -> ClientView
     ensures { result ≡ client_view sequence slot }
 {
-    scm::scm_master_client(sequence, slot)
+    master::readers::client_at(&sequence, slot)
 }
 
 #[unsafe(no_mangle)]
 pub extern "C" fn scm_master_verify(master: Master) -> Named
     ensures { result ≡ verify_view master }
 {
-    scm::scm_master_verify(master)
+    master.verify()
 }
 
 #[unsafe(no_mangle)]
@@ -372,19 +374,19 @@ pub extern "C" fn scm_master_progress(
 ) -> Progress
     ensures { result ≡ progress_of state recording playback }
 {
-    scm::scm_master_progress(state, recording, playback)
+    master::readers::progress_of(state, &recording, &playback)
 }
 
 #[unsafe(no_mangle)]
 pub extern "C" fn scm_master_taken(recording: Recording, i: usize) -> TakenView
     ensures { result ≡ taken_view recording i }
 {
-    scm::scm_master_taken(recording, i)
+    master::readers::taken_at(&recording, i)
 }
 
 #[unsafe(no_mangle)]
 pub extern "C" fn scm_master_sent(playback: Playback, i: usize) -> SentView
     ensures { result ≡ sent_view playback i }
 {
-    scm::scm_master_sent(playback, i)
+    master::readers::sent_at(&playback, i)
 }

@@ -22,7 +22,7 @@ use Rattle.sequence.specs.declared.Step.{Step}
 use Rattle.sequence.specs.declared.Sequence.{Sequence}
 use Rattle.recording.specs.Indication.{again_error, error_by, first_error, heard_again, heard_first, heard_of}
 use Rattle.recording.specs.declared.Taken.{Taken}
-use Rattle.recording.specs.declared.Heard.{Heard}
+use Rattle.recording.specs.Indication.{Heard}
 use Rattle.recording.proofs.Steps.{both}
 use Rattle.playback.specs.Answer.{is_function_of, has_function}
 use Rattle.master.specs.declared.Master.{Master}

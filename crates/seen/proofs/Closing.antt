@@ -20,7 +20,7 @@ use Rattle.recording.specs.Indication.{status, is_open, has_open, held_of, step_
 use Rattle.recording.specs.Promises.{Sound}
 use Rattle.recording.specs.declared.Taken.{Taken}
 use Rattle.recording.specs.declared.Recording.{Recording}
-use Rattle.recording.specs.declared.Heard.{Heard}
+use Rattle.recording.specs.Indication.{Heard}
 use Rattle.recording.proofs.Cases.{full, held_count, held_at, error, by_cases}
 use Rattle.recording.proofs.Errors.{early}
 use Rattle.recording.proofs.Steps.{both, unchanged, idle_at_once, idle_started}

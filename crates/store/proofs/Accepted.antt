@@ -32,7 +32,7 @@ use Rattle.store.specs.Promises.{Accepted}
 use Rattle.store.proofs.Below.{below_every, found_below}
 use Rattle.store.proofs.Lists.{every_row, pad_is}
 use Rattle.store.proofs.Fields.{count_parts, label_most, client_parts, step_parts}
-use Rattle.store.proofs.Steps.{steps_length, every_step, some_step}
+use Rattle.store.proofs.Steps.{steps_length, every_step, step_of}
 use Rattle.store.proofs.Records.{has_slot, record_to, records_length, record_none, record_some, record_used, records_count}
 
 -- ---- a label
@@ -163,8 +163,7 @@ module _ (s : List ℕ) where
 
     -- there is a step of slot x
     has_step : (x : ℕ) → some (is_of x) (steps_of q) ≡ some_below n (λ k. eqb (step_slot s c k) x)
-    unfolding step_at
-    has_step x = rw steps_are (some_step s c (is_of x) n)
+    has_step x = rw steps_are (step_of s c x n)
 
     -- there is a record of slot x exactly where there is a step of it
     as_steps : (x : ℕ) → has_slot s c x ≡ some (is_of x) (steps_of q)

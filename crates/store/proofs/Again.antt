@@ -23,7 +23,7 @@ use Rattle.store.specs.Blocks.{block_bytes, blocks_for, client_place, step_place
 use Rattle.store.specs.Fields.{step_right}
 use Rattle.store.specs.Stored.{client_bytes, step_bytes, slots_in, contents_of, stored_of, store_bytes}
 use Rattle.store.specs.Loaded.{client_at, client_right, client_blank, step_at, step_blank, client_count, step_count, edition_in, client_slot, step_slot, records_to, steps_to, sequence_in, counts_right, are_clients_right, are_steps_right, is_fill_blank, is_no_slot_twice, has_each_record, has_each_step, is_faulty, load_number, loaded_of}
-use Rattle.store.specs.declared.Loaded.{Loaded}
+use Rattle.store.specs.Loaded.{Loaded}
 use Rattle.store.specs.Legal.{Legal, FitsStep, FitsRecord, Fits}
 use Rattle.store.specs.Whole.{clients_by, stored_by, Orders}
 use Rattle.store.proofs.Below.{every_below_lem, none_below, some_below_lem}

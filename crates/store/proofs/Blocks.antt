@@ -6,8 +6,9 @@ use native.Mathlib.Omega.{arith}
 use mathlib.Core.Path.{◌≡◌, refl, sym, ap, ◌∙◌}
 use mathlib.Core.Bool.{true}
 use mathlib.Core.List.{List, [], ◌∷◌, ◌++◌, append-nil, append_assoc}
-use lib.ListN.{length, get_or, take, drop, replicate, length-append, length-drop, get_or-append}
-use lib.Seq.{sets, length-sets, length-take-le, take-suc, take_at, get_or-take, get_or-drop}
+use borrow.Rule.Slice.PartMut.{put_mid}
+use lib.ListN.{length, get_or, take, drop, replicate, length-append, length-drop, get_or-append, drop_of_length-le}
+use lib.Seq.{sets, sets-eq, length-sets, length-take-le, take-suc, take_at, drop-drop}
 use borrow.Author.Tests.{eq-eqb}
 use Rattle.octets.specs.Octets.{bytes_of}
 use Rattle.octets.proofs.Laws.{length_bytes, then_sets}
@@ -16,7 +17,7 @@ use Rattle.store.specs.Blocks.{block_bytes, content_bytes, check_at, is_intact}
 use Rattle.store.specs.Stored.{filled, sealed, sealed_from}
 use Rattle.store.specs.Loaded.{is_blank}
 use Rattle.store.proofs.Lists.{pad_is}
-use Rattle.store.proofs.Sets.{stands, sets_same, sets_over}
+use Rattle.store.proofs.Sets.{stands, part_put}
 use Rattle.store.proofs.Checks.{check_fits, check_moved}
 use Rattle.store.proofs.Stands.{At, at_start, at_left, at_right, at_number, at_blank}
 
@@ -35,39 +36,41 @@ length_blocks number (content ∷ contents) =
     length-append (sealed number content) (sealed_from (number + 1) contents)
     ∙ omega (arith, length_sealed number content, length_blocks (number + 1) contents)
 
--- ---- storing a block whose content stands there
+-- ---- a block is filled after its content, and its check written
 
-module _ (out : List ℕ) (i used number : ℕ) (h : i + 512 ≤ length out) (u : used ≤ 508) where
+module _ (block : List ℕ) (used number : ℕ) (h : length block ≡ 512) (u : used ≤ 508) where
   abbrev content : List ℕ
-  content = take used (drop i out)
+  content = take used block
 
-  filled_stored : sets out (i + used) (replicate (508 - used) 0) ≡ sets out i (filled content)
+  long : length content ≡ used
+  long = length-take-le used block (omega arith)
+
+  filled_stored : put_mid used (508 - used) block (replicate (508 - used) 0) ≡ filled content ++ drop 508 block
   filled_stored =
-      let long : length content ≡ used = length-take-le used (drop i out) (omega (arith, length-drop i out)) in
-      sym
-      (ap (sets out i) (pad_is 0 508 content (omega arith) ∙ ap (λ (k : ℕ). content ++ replicate (508 - k) 0) long)
-      ∙ then_sets out i used content (replicate (508 - used) 0) long
-      ∙ ap (λ (l : List ℕ). sets l (i + used) (replicate (508 - used) 0)) (sets_same out i used (omega arith)))
+      let e : used + (508 - used) ≡ 508 = omega arith in
+      rw (drop-drop (508 - used) used block, e, pad_is 0 508 content (omega (arith, long)), long, append_assoc content (replicate (508 - used) 0) (drop 508 block))
 
-  check_there : check_at (sets out i (filled content)) i number ≡ check_at (filled content) 0 number
+  check_there : check_at (filled content ++ drop 508 block) 0 number ≡ check_at (filled content) 0 number
   check_there =
-      let here : take 508 (drop i (sets out i (filled content))) ≡ filled content = stands out i 508 (filled content) (length_filled content) (omega arith) in
-      check_moved (sets out i (filled content)) (filled content) i 0 number
-      (λ k g.
-      let z : 0 + k ≡ k = omega arith in
-      sym (get_or-take 508 (drop i (sets out i (filled content))) k 0 g ∙ get_or-drop i (sets out i (filled content)) k 0)
-      ∙ ap (λ (l : List ℕ). get_or l k 0) here ∙ ap (λ (j : ℕ). get_or (filled content) j 0) (sym z))
+      check_moved (filled content ++ drop 508 block) (filled content) 0 0 number
+      (λ k g. get_or-append (filled content) (drop 508 block) 0 (0 + k) (omega (arith, length_filled content)))
 
-  -- it is filled, and its check written
   pub sealed_stored :
-      (check : ℕ) → check ≡ check_at (sets out (i + used) (replicate (508 - used) 0)) i number
-      → sets (sets out (i + used) (replicate (508 - used) 0)) (i + 508) (bytes_of 4 check) ≡ sets out i (sealed number content)
+      (zeros : List ℕ) → zeros ≡ replicate (508 - used) 0
+      → (check : ℕ) → check ≡ check_at (put_mid used (508 - used) block zeros) 0 number
+      → sets (put_mid used (508 - used) block zeros) 508 (bytes_of 4 check) ≡ sealed number content
   unfolding sealed
-  sealed_stored check e =
-      let c : check ≡ check_at (filled content) 0 number = e ∙ ap (λ (l : List ℕ). check_at l i number) filled_stored ∙ check_there in
-      ap (λ (l : List ℕ). sets l (i + 508) (bytes_of 4 check)) filled_stored
-      ∙ ap (λ (n : ℕ). sets (sets out i (filled content)) (i + 508) (bytes_of 4 n)) c
-      ∙ sym (then_sets out i 508 (filled content) (bytes_of 4 (check_at (filled content) 0 number)) (length_filled content))
+  sealed_stored zeros z check e =
+      let there : put_mid used (508 - used) block zeros ≡ filled content ++ drop 508 block = ap (put_mid used (508 - used) block) z ∙ filled_stored in
+      let c : check ≡ check_at (filled content) 0 number = e ∙ ap (λ (l : List ℕ). check_at l 0 number) there ∙ check_there in
+      let last : length (drop 508 block) ≡ 4 = omega (arith, length-drop 508 block) in
+      let room : 508 + length (bytes_of 4 check) ≤ length (filled content ++ drop 508 block) =
+      omega (arith, length-append (filled content) (drop 508 block), length_filled content, length_bytes 4 check) in
+      let over : drop (508 + 4) (filled content ++ drop 508 block) ≡ [] =
+      drop_of_length-le (filled content ++ drop 508 block) {i = 508 + 4} (omega (arith, length-append (filled content) (drop 508 block), length_filled content)) in
+      ap (λ (l : List ℕ). sets l 508 (bytes_of 4 check)) there
+      ∙ rw (sets-eq (bytes_of 4 check) (filled content ++ drop 508 block) 508 room, length_bytes 4 check, take_at (filled content) (drop 508 block) 508 (length_filled content), over, append-nil (filled content ++ bytes_of 4 check))
+      (ap (λ (n : ℕ). filled content ++ bytes_of 4 n) c)
 
 -- ---- storing blocks one after the other
 
@@ -87,17 +90,17 @@ module _ (before : List ℕ) (contents : List (List ℕ)) (b : ℕ) (h : b < len
       ∙ ap (λ (k : ℕ). sealed_from 1 (take b contents) ++ sealed k (get_or contents b [])) n
 
   pub block_stored :
-      (used : ℕ) (out : List ℕ) → 512 * b + 512 ≤ length before → out ≡ sets before 0 (sealed_from 1 (take b contents)) → length (get_or contents b []) ≡ used → used ≤ 508
-      → sets (sets out (512 * b) (get_or contents b [])) (512 * b) (sealed (b + 1) (take used (drop (512 * b) (sets out (512 * b) (get_or contents b [])))))
-      ≡ sets before 0 (sealed_from 1 (take (b + 1) contents))
-  block_stored used out room e n u =
+      (used : ℕ) (out block : List ℕ) → 512 * b + 512 ≤ length before → out ≡ sets before 0 (sealed_from 1 (take b contents)) → length (get_or contents b []) ≡ used
+      → used ≤ 508 → length block ≡ 512 → (n : ℕ) → n ≡ 512
+      → put_mid (512 * b) n out (sealed (b + 1) (take used (sets block 0 (get_or contents b [])))) ≡ sets before 0 (sealed_from 1 (take (b + 1) contents))
+  block_stored used out block room e n u w m q =
       let x : List ℕ = get_or contents b [] in
-      let long : length out ≡ length before = ap length e ∙ length-sets before 0 (sealed_from 1 (take b contents)) in
-      let less : length x ≤ length (sealed (b + 1) x) = omega (arith, length_sealed (b + 1) x) in
+      let wide : length out ≡ length before = ap length e ∙ length-sets before 0 (sealed_from 1 (take b contents)) in
       let place : length (sealed_from 1 (take b contents)) ≡ 512 * b = length_blocks 1 (take b contents) ∙ ap (λ (k : ℕ). 512 * k) (length-take-le b contents (omega arith)) in
       let here : 512 * b ≡ 0 + 512 * b = omega arith in
-      ap (λ (l : List ℕ). sets (sets out (512 * b) x) (512 * b) (sealed (b + 1) l)) (stands out (512 * b) used x n (omega arith))
-      ∙ sets_over out (512 * b) x (sealed (b + 1) x) less
+      let there : take used (sets block 0 x) ≡ x = stands block 0 used x n (omega arith) in
+      ap (λ (l : List ℕ). put_mid (512 * b) m out (sealed (b + 1) l)) there
+      ∙ part_put out (512 * b) m (sealed (b + 1) x) (length_sealed (b + 1) x ∙ sym q) (omega arith)
       ∙ ap (λ (l : List ℕ). sets l (512 * b) (sealed (b + 1) x)) e
       ∙ ap (λ (k : ℕ). sets (sets before 0 (sealed_from 1 (take b contents))) k (sealed (b + 1) x)) here
       ∙ sym (ap (sets before 0) blocks_next ∙ then_sets before 0 (512 * b) (sealed_from 1 (take b contents)) (sealed (b + 1) x) place)

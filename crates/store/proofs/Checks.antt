@@ -1,6 +1,7 @@
 -- Laws of sums and checks: bytes that agree have one check, wherever they stand, and words that differ in one place have sums that differ by it.
 use Prim.Native.Nat.{ℕ, zero, suc, ◌+◌, ◌*◌, ◌%◌, ◌^◌, ◌<◌}
 use native.Mathlib.Nat.{add-zero}
+use native.Mathlib.Numerals.{add-one}
 use native.Mathlib.Omega.{arith}
 use mathlib.Core.Path.{◌≡◌, refl, ap}
 use mathlib.Core.Bool.{Bool, true, false}
@@ -11,7 +12,7 @@ use borrow.Author.Tests.{eqb-true, eqb-false}
 use Rattle.octets.specs.Octets.{number_at}
 use Rattle.store.specs.Blocks.{word_at, sum_at, check_at}
 
-number_moved : (w : ℕ) (s t : List ℕ) (i j : ℕ) → ((k : ℕ) → k < w → get_or s (i + k) 0 ≡ get_or t (j + k) 0) → number_at w s i ≡ number_at w t j
+pub number_moved : (w : ℕ) (s t : List ℕ) (i j : ℕ) → ((k : ℕ) → k < w → get_or s (i + k) 0 ≡ get_or t (j + k) 0) → number_at w s i ≡ number_at w t j
 unfolding number_at
 number_moved zero s t i j h = refl
 number_moved (suc w) s t i j h =
@@ -19,6 +20,16 @@ number_moved (suc w) s t i j h =
     let later : (k : ℕ) → k < w → get_or s (i + 1 + k) 0 ≡ get_or t (j + 1 + k) 0 =
     λ k g. let a : i + 1 + k ≡ i + suc k = omega arith in let b : j + 1 + k ≡ j + suc k = omega arith in rw (a, b) (h (suc k) (omega arith)) in
     rw (first, number_moved w s t (i + 1) (j + 1) later)
+
+-- the sum of one word more
+pub sum_more : (s : List ℕ) (k : ℕ) → sum_at s 0 (k + 1) ≡ sum_at s 0 k + number_at 4 s (4 * k)
+unfolding sum_at
+sum_more s k = let e : 0 + 4 * k ≡ 4 * k = omega arith in rw (add-one k, e)
+
+-- the sum of no word
+pub sum_none : (s : List ℕ) → sum_at s 0 0 ≡ 0
+unfolding sum_at
+sum_none s = refl
 
 pub check_fits : (s : List ℕ) (p number : ℕ) → check_at s p number < 256 ^ 4
 unfolding check_at

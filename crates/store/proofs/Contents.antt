@@ -9,12 +9,13 @@ use lib.Seq.{sets, get_or-append-add}
 use borrow.Author.Tests.{eq-eqb, ne_eqb, le-leb, lt-leb}
 use Rattle.octets.specs.Octets.{bytes_of}
 use Rattle.octets.proofs.Tests.{pick_true, pick_false, pick_both}
-use Rattle.arrays.proofs.Every.{map_take}
+use Rattle.std.proofs.lemmas.List.{drop-map, take-map}
+use Rattle.client.specs.Records.{blank_record}
 use Rattle.sequence.specs.Sequence.{length_of, steps_of}
 use Rattle.sequence.specs.declared.Sequence.{Sequence}
 use Rattle.store.specs.Blocks.{client_blocks, step_blocks, blocks_for, used_bytes}
-use Rattle.store.specs.Stored.{slots_in, clients_in, step_bytes, head_of, joined, groups, contents_of, store_bytes}
-use Rattle.store.proofs.Lists.{part_most, part_take}
+use Rattle.store.specs.Stored.{client_bytes, clients_at, slots_in, clients_in, step_bytes, head_of, joined, groups, contents_of, store_bytes}
+use Rattle.store.proofs.Lists.{part_most}
 use Rattle.store.proofs.Groups.{length_groups, group_at}
 use Rattle.store.proofs.Items.{head_length, head_stored}
 
@@ -93,14 +94,14 @@ module _ (q : Sequence) where
   abbrev all_steps : List (List ℕ)
   all_steps = map step_bytes (steps_of q)
 
-  module _ (long : length q.steps ≡ 64) where
-    pub steps_count : length (steps_of q) ≡ length_of q
-    unfolding steps_of
-    steps_count = length-take q.count q.steps ∙ ap (min q.count) long
+  pub steps_count : length q.steps ≡ 64 → length (steps_of q) ≡ length_of q
+  unfolding steps_of
+  steps_count long = length-take q.count q.steps ∙ ap (min q.count) long
 
+  module _ (many : length (steps_of q) ≡ length_of q) where
     pub contents_count : length (contents_of q) ≡ blocks_for (length (slots_in q.records)) (length_of q)
     unfolding contents_of
-    contents_count = length_contents count (length (steps_of q)) q.edition all_clients all_steps ∙ ap (blocks_for count) steps_count
+    contents_count = length_contents count (length (steps_of q)) q.edition all_clients all_steps ∙ ap (blocks_for count) many
 
     pub first_length : (b : ℕ) → b ≡ 0 → length (get_or (contents_of q) b []) ≡ used_bytes (length (slots_in q.records)) (length_of q) b
     unfolding contents_of
@@ -110,34 +111,37 @@ module _ (q : Sequence) where
     module _ (c n b : ℕ) (clients : c ≡ length (slots_in q.records)) (steps : n ≡ length_of q) where
       pub first_stored :
           (out : List ℕ) → b ≡ 0
-          → sets (sets (sets out 0 (bytes_of 4 c)) 4 (bytes_of 4 n)) 8 (bytes_of 4 (q.edition - 1)) ≡ sets out (512 * b) (get_or (contents_of q) b [])
+          → sets (sets (sets out 0 (bytes_of 4 c)) 4 (bytes_of 4 n)) 8 (bytes_of 4 (q.edition - 1)) ≡ sets out 0 (get_or (contents_of q) b [])
       unfolding contents_of
-      first_stored out e = rw (e, ← clients, steps_count, ← steps) (head_stored c n q.edition out)
+      first_stored out e = rw (e, ← clients, many, ← steps) (head_stored c n q.edition out)
 
       module _ (m r : ℕ) (e : m ≡ client_blocks c) where
-        pub content_clients : 1 ≤ b → b ≤ m → r ≡ min (c - 3 * (b - 1)) 3 → get_or (contents_of q) b [] ≡ joined (take r (drop (3 * (b - 1)) (clients_in q.records)))
+        pub content_clients :
+            (slots : List ℕ) → slots ≡ slots_in q.records → 1 ≤ b → b ≤ m → r ≡ min (c - 3 * (b - 1)) 3
+            → get_or (contents_of q) b [] ≡ joined (clients_at (take r (drop (3 * (b - 1)) slots)) q.records)
         unfolding contents_of
-        content_clients f g k =
+        content_clients slots same f g k =
+            let item = λ (slot : ℕ). client_bytes slot (get_or q.records slot blank_record) in
+            let some : take r (drop (3 * (b - 1)) all_clients) ≡ map item (take r (drop (3 * (b - 1)) slots)) =
+            rw same (ap (take r) (drop-map item (3 * (b - 1)) (slots_in q.records)) ∙ take-map item r (drop (3 * (b - 1)) (slots_in q.records))) in
             let s : b ≡ suc (b - 1) = omega arith in
             let less : b - 1 < client_blocks count = omega arith in
             ap (λ (j : ℕ). get_or (contents_of q) j []) s
             ∙ client_content count (length (steps_of q)) q.edition all_clients all_steps (b - 1) less
             ∙ group_at 3 (client_blocks count) all_clients (b - 1) less
-            ∙ ap joined (part_most all_clients 3 (3 * (b - 1)) c r (length-map (slots_in q.records) _ ∙ sym clients) k)
+            ∙ ap joined (part_most all_clients 3 (3 * (b - 1)) c r (length-map (slots_in q.records) _ ∙ sym clients) k ∙ some)
 
         pub content_steps :
             m < b → b < blocks_for c n → r ≡ min (n - 31 * (b - 1 - m)) 31
-            → get_or (contents_of q) b [] ≡ joined (take r (drop (31 * (b - 1 - m)) (map step_bytes q.steps)))
-        unfolding contents_of steps_of
+            → get_or (contents_of q) b [] ≡ joined (map step_bytes (take r (drop (31 * (b - 1 - m)) (steps_of q))))
+        unfolding contents_of
         content_steps g h k =
             let j : ℕ = b - 1 - m in
             let s : b ≡ suc (client_blocks count + j) = omega arith in
-            let less : j < step_blocks (length (steps_of q)) = omega (arith, steps_count) in
-            let room : 31 * j + r ≤ q.count = omega (arith, (steps_room c n b h m r e g k).1) in
+            let less : j < step_blocks (length (steps_of q)) = omega (arith, many) in
             ap (λ (i : ℕ). get_or (contents_of q) i []) s
             ∙ step_content count (length (steps_of q)) q.edition all_clients all_steps j
             ∙ group_at 31 (step_blocks (length (steps_of q))) all_steps j less
             ∙ ap joined
-            (part_most all_steps 31 (31 * j) n r (length-map (steps_of q) step_bytes ∙ steps_count ∙ sym steps) k
-            ∙ ap (λ (l : List (List ℕ)). take r (drop (31 * j) l)) (map_take step_bytes q.count q.steps)
-            ∙ part_take r (31 * j) q.count (map step_bytes q.steps) room)
+            (part_most all_steps 31 (31 * j) n r (length-map (steps_of q) step_bytes ∙ many ∙ sym steps) k
+            ∙ ap (take r) (drop-map step_bytes (31 * j) (steps_of q)) ∙ take-map step_bytes r (drop (31 * j) (steps_of q)))

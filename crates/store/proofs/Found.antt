@@ -14,7 +14,7 @@ use Rattle.octets.proofs.{Laws.Bytes, Laws.past, Laws.bytes_of_number, Cells.len
 use Rattle.store.specs.Blocks.{block_bytes}
 use Rattle.store.specs.Stored.{joined, groups, sealed, sealed_from}
 use Rattle.store.specs.Loaded.{byte_at, is_blank}
-use Rattle.store.proofs.Below.{below_every}
+use Rattle.store.proofs.Below.{range_below, below_every}
 use Rattle.store.proofs.Lists.{every_take, every_drop}
 use Rattle.store.proofs.Stands.{At}
 use Rattle.store.proofs.Groups.{Wide, group_at}
@@ -61,7 +61,7 @@ module _ (s : List ℕ) where
       let same : bytes_at s p m ≡ replicate m 0 =
       ext_get_or 0 (bytes_at s p m) (replicate m 0) (length_cells m _ ∙ sym (length-replicate {A = ℕ} m 0)) (λ k l.
       let g : k < m = rw (length_cells m _) at l in
-      cell m _ k g ∙ eqb-true _ _ (below_every (λ i. eqb (byte_at s (p + i)) 0) (j - p) b k (omega arith)) ∙ sym (get_or-replicate m k 0 0 g)) in
+      cell m _ k g ∙ eqb-true _ _ (below_every (λ i. eqb (byte_at s (p + i)) 0) (j - p) (sym (range_below (λ at. eqb (byte_at s at) 0) p (j - p)) ∙ b) k (omega arith)) ∙ sym (get_or-replicate m k 0 0 g)) in
       rw same at (bytes_there p m (omega arith))
 
 -- ---- from what stands there, part by part

@@ -5,11 +5,13 @@ use native.Mathlib.Numerals.{add-one}
 use native.Mathlib.Omega.{arith}
 use mathlib.Core.Path.{◌≡◌, refl, sym, ap, ◌∙◌}
 use mathlib.Core.List.{List, [], ◌∷◌, ◌++◌, append-nil, append_assoc}
+use borrow.Rule.Slice.PartMut.{put_mid}
 use lib.ListN.{length, get_or, take, drop, length-append, length-take, length-drop, drop_of_length-le}
 use lib.Seq.{sets, drop-cons, drop-drop, take-suc, get_or-take, get_or-drop}
 use Rattle.octets.proofs.Laws.{then_sets}
 use Rattle.arrays.specs.Every.{Every}
 use Rattle.store.specs.Stored.{joined, groups}
+use Rattle.store.proofs.Sets.{part_set}
 use Rattle.store.proofs.Lists.{every_take, every_drop}
 use Rattle.store.proofs.Stands.{At, at_left, at_right}
 
@@ -19,26 +21,37 @@ joined_append (x ∷ a) b = ap (λ (l : List ℕ). x ++ l) (joined_append a b) �
 
 -- ---- storing them, from the j-th on
 
-module _ (w : ℕ) (l : List (List ℕ)) (i j : ℕ) (out : List ℕ) where
-  pub item_start : sets out i (joined l) ≡ sets out (i + w * 0) (joined (drop 0 l))
-  item_start = let e : i ≡ i + w * 0 = omega arith in ap (λ (k : ℕ). sets out k (joined l)) e
+module _ (w : ℕ) (l : List (List ℕ)) (j : ℕ) (out : List ℕ) where
+  pub item_start : j ≡ 0 → sets out 0 (joined l) ≡ sets out (w * j) (joined (drop j l))
+  item_start e = rw (e, mul-zero w)
 
-  pub item_end : length l ≤ j → sets out (i + w * j) (joined (drop j l)) ≡ out
-  item_end h = ap (λ (r : List (List ℕ)). sets out (i + w * j) (joined r)) (drop_of_length-le l {i = j} h)
+  pub item_end : length l ≤ j → sets out (w * j) (joined (drop j l)) ≡ out
+  item_end h = ap (λ (r : List (List ℕ)). sets out (w * j) (joined r)) (drop_of_length-le l {i = j} h)
 
   module _ (x : List ℕ) (h : j < length l) (e : get_or l j [] ≡ x) (n : length x ≡ w) where
-    pub item_next : sets out (i + w * j) (joined (drop j l)) ≡ sets (sets out (i + w * j) x) (i + w * (j + 1)) (joined (drop (j + 1) l))
+    item_next : sets out (w * j) (joined (drop j l)) ≡ sets (sets out (w * j) x) (w * (j + 1)) (joined (drop (j + 1) l))
     item_next =
         let rest : drop j l ≡ x ∷ drop (j + 1) l = drop-cons l j [] h ∙ rw (e, add-one j) in
-        let next : i + w * j + w ≡ i + w * (j + 1) = omega arith in
-        ap (λ (r : List (List ℕ)). sets out (i + w * j) (joined r)) rest
-        ∙ then_sets out (i + w * j) w x (joined (drop (j + 1) l)) n
-        ∙ ap (λ (k : ℕ). sets (sets out (i + w * j) x) k (joined (drop (j + 1) l))) next
+        let next : w * j + w ≡ w * (j + 1) = omega (arith, mul-suc w j, add-one j) in
+        ap (λ (r : List (List ℕ)). sets out (w * j) (joined r)) rest
+        ∙ then_sets out (w * j) w x (joined (drop (j + 1) l)) n
+        ∙ ap (λ (k : ℕ). sets (sets out (w * j) x) k (joined (drop (j + 1) l))) next
 
     pub item_more : length (joined (take j l)) ≡ w * j → length (joined (take (j + 1) l)) ≡ w * (j + 1)
     item_more g =
-        rw (add-one j, take-suc l j [] h, joined_append (take j l) (get_or l j [] ∷ []), e, length-append (joined (take j l)) (x ++ []), append-nil x, g, n)
+        rw (add-one j, take-suc l j [] h, joined_append (take j l) (get_or l j [] ∷ []), e, length-append (joined (take j l)) (x ++ []), append-nil x, g, n, mul-suc w j)
         (omega arith)
+
+-- one more is stored, at the start of what is left of the block
+pub item_put :
+    (w : ℕ) (l : List (List ℕ)) (j n : ℕ) (whole block new x : List ℕ) → j < length l → get_or l j [] ≡ x → length x ≡ w
+    → n ≡ length block - w * j → w * j + w ≤ length block → whole ≡ sets block (w * j) (joined (drop j l))
+    → new ≡ sets (take n (drop (w * j) block)) 0 x
+    → whole ≡ sets (put_mid (w * j) n block new) (w * (j + 1)) (joined (drop (j + 1) l))
+item_put w l j n whole block new x h e k left room start stored =
+    start ∙ item_next w l j block x h e k
+    ∙ ap (λ (b : List ℕ). sets b (w * (j + 1)) (joined (drop (j + 1) l)))
+    (sym (ap (put_mid (w * j) n block) stored ∙ part_set block (w * j) n x (omega arith) (omega arith)))
 
 -- ---- where each stands
 
@@ -46,7 +59,7 @@ module _ (w : ℕ) where
   abbrev pub Wide : List (List ℕ) → Type 0
   Wide l = Every (λ x. length x ≡ w) l
 
-  length_joined : (l : List (List ℕ)) → Wide l → length (joined l) ≡ w * length l
+  pub length_joined : (l : List (List ℕ)) → Wide l → length (joined l) ≡ w * length l
   length_joined [] h = sym (mul-zero w)
   length_joined (x ∷ l) h = length-append x (joined l) ∙ rw (h.0, length_joined l h.1, mul-suc w (length l)) (omega arith)
 

@@ -1,5 +1,5 @@
 -- The bytes of the first block, of a client record and of a step: their parts, how long they are, and what storing them part after part gives.
-use Prim.Native.Nat.{ℕ, ◌+◌, ◌-◌}
+use Prim.Native.Nat.{ℕ, ◌-◌}
 use mathlib.Core.Path.{◌≡◌, refl, sym, ap, ◌∙◌}
 use mathlib.Core.List.{List, [], ◌∷◌, ◌++◌}
 use lib.ListN.{length, set, length-append}
@@ -62,21 +62,21 @@ module _ (slot : ℕ) (r : ClientRecord) where
 
       -- its fields, one after the other
       pub client_stored :
-          (out : List ℕ) (i : ℕ)
-          → set (sets (set (sets (sets (sets (sets out i (first slot r)) (i + 4) (bytes_of 8 r.name)) (i + 12) (bytes_of 8 r.master)) (i + 20) r.version.bytes) (i + 83) 0) (i + 84) r.configuration.bytes) (i + 147) 0
-          ≡ sets out i (client_bytes slot r)
+          (out : List ℕ)
+          → set (sets (set (sets (sets (sets (sets out 0 (first slot r)) 4 (bytes_of 8 r.name)) 12 (bytes_of 8 r.master)) 20 r.version.bytes) 83 0) 84 r.configuration.bytes) 147 0
+          ≡ sets out 0 (client_bytes slot r)
       unfolding client_bytes
-      client_stored out i =
+      client_stored out =
           sym
-          (then_sets out i 147 (version slot r ++ r.configuration.bytes) (0 ∷ []) (simp (length-append, length_bytes, v, w))
-          ∙ ap (λ (l : List ℕ). set l (i + 147) 0) (then_sets out i 84 (version slot r) r.configuration.bytes version_length)
-          ∙ ap (λ (l : List ℕ). set (sets l (i + 84) r.configuration.bytes) (i + 147) 0)
-          (then_sets out i 83 (names slot r ++ r.version.bytes) (0 ∷ []) (simp (length-append, length_bytes, v))
-          ∙ ap (λ (l : List ℕ). set l (i + 83) 0)
-          (then_sets out i 20 (names slot r) r.version.bytes names_length
-          ∙ ap (λ (l : List ℕ). sets l (i + 20) r.version.bytes)
-          (then_sets out i 12 (named slot r) (bytes_of 8 r.master) named_length
-          ∙ ap (λ (l : List ℕ). sets l (i + 12) (bytes_of 8 r.master)) (then_sets out i 4 (first slot r) (bytes_of 8 r.name) refl)))))
+          (then_sets out 0 147 (version slot r ++ r.configuration.bytes) (0 ∷ []) (simp (length-append, length_bytes, v, w))
+          ∙ ap (λ (l : List ℕ). set l 147 0) (then_sets out 0 84 (version slot r) r.configuration.bytes version_length)
+          ∙ ap (λ (l : List ℕ). set (sets l 84 r.configuration.bytes) 147 0)
+          (then_sets out 0 83 (names slot r ++ r.version.bytes) (0 ∷ []) (simp (length-append, length_bytes, v))
+          ∙ ap (λ (l : List ℕ). set l 83 0)
+          (then_sets out 0 20 (names slot r) r.version.bytes names_length
+          ∙ ap (λ (l : List ℕ). sets l 20 r.version.bytes)
+          (then_sets out 0 12 (named slot r) (bytes_of 8 r.master) named_length
+          ∙ ap (λ (l : List ℕ). sets l 12 (bytes_of 8 r.master)) (then_sets out 0 4 (first slot r) (bytes_of 8 r.name) refl)))))
 
 -- ---- a step: up to its mark, up to its value, up to its zeros
 
@@ -105,12 +105,12 @@ module _ (s : Step) where
 
   -- its fields, one after the other
   pub step_stored :
-      (out : List ℕ) (i : ℕ)
-      → sets (sets (sets (sets out i (fields s)) (i + 4) (bytes_of 4 s.mark)) (i + 8) (bytes_of 4 s.value)) (i + 12) zeros ≡ sets out i (step_bytes s)
+      (out : List ℕ)
+      → sets (sets (sets (sets out 0 (fields s)) 4 (bytes_of 4 s.mark)) 8 (bytes_of 4 s.value)) 12 zeros ≡ sets out 0 (step_bytes s)
   unfolding step_bytes
-  step_stored out i =
+  step_stored out =
       sym
-      (then_sets out i 12 (valued s) zeros valued_length
-      ∙ ap (λ (l : List ℕ). sets l (i + 12) zeros)
-      (then_sets out i 8 (marked s) (bytes_of 4 s.value) marked_length
-      ∙ ap (λ (l : List ℕ). sets l (i + 8) (bytes_of 4 s.value)) (then_sets out i 4 (fields s) (bytes_of 4 s.mark) refl)))
+      (then_sets out 0 12 (valued s) zeros valued_length
+      ∙ ap (λ (l : List ℕ). sets l 12 zeros)
+      (then_sets out 0 8 (marked s) (bytes_of 4 s.value) marked_length
+      ∙ ap (λ (l : List ℕ). sets l 8 (bytes_of 4 s.value)) (then_sets out 0 4 (fields s) (bytes_of 4 s.mark) refl)))

@@ -2,6 +2,7 @@ pub mod Below
 pub mod Lists
 pub mod Sets
 pub mod Checks
+pub mod Parts
 pub mod Stands
 pub mod Groups
 pub mod Items

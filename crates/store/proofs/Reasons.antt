@@ -1,19 +1,26 @@
 -- From the tests that loading makes to the reasons for 17, and to what is loaded.
-use Prim.Native.Nat.{ℕ, ◌*◌, ◌<◌}
+use Prim.Native.Nat.{ℕ, ◌+◌, ◌*◌, ◌≤◌, ◌<◌}
+use native.Mathlib.Omega.{arith}
 use mathlib.Core.Path.{◌≡◌, refl, sym, ap, subst, ◌∙◌}
 use mathlib.Core.Bool.{Bool, true, false, not, ◌&&◌, and-true, and-false}
 use mathlib.Core.List.{List, [], ◌∷◌, map}
-use lib.Dec.{eqb}
-use lib.ListN.{length, get_or}
-use borrow.Author.Tests.{eq-eqb}
+use lib.Dec.{eqb, ltb}
+use lib.ListN.{length, get_or, take}
+use borrow.Author.Tests.{eq-eqb, eqb-true}
+use Rattle.std.proofs.Common.{None, Some, Err}
+use Rattle.std.specs.Option.{ok_or}
+use Rattle.std.specs.Bool.{then_some}
 use Rattle.octets.specs.Pick.{pick}
-use Rattle.octets.specs.Bits.{has_bit}
-use Rattle.octets.specs.Numbers.{completed, check_wrong, not_stored}
+use Rattle.octets.specs.Octets.{number_at}
+use Rattle.octets.specs.Numbers.{completed, not_stored}
+use Rattle.octets.specs.declared.numbers.Refusal.TheVariants.{CheckWrong, NotStored}
 use Rattle.octets.proofs.Tests.{both}
 use Rattle.arrays.specs.Arrays.{some, pad_to}
 use Rattle.client.specs.Records.{is_used, blank_record}
 use Rattle.client.specs.declared.ClientRecord.{ClientRecord}
+use Rattle.arrays.proofs.Pad.{pad_take}
 use Rattle.sequence.specs.Sequence.{blank_step, blank_sequence}
+use Rattle.sequence.specs.Sound.{is_of}
 use Rattle.sequence.specs.Editions.{is_edition}
 use Rattle.sequence.specs.{declared.Step.Step, declared.Sequence.Sequence}
 use Rattle.store.specs.Below.{every_below, some_below}
@@ -21,12 +28,11 @@ use Rattle.store.specs.Blocks.{is_damaged, blocks_for, client_place, step_place}
 use Rattle.store.specs.Fields.{step_right}
 use Rattle.store.specs.Loaded.{client_right, client_blank, step_at, step_blank, client_slot, step_slot, client_count, step_count, edition_in, records_to, steps_to}
 use Rattle.store.specs.Loaded.{counts_right, rest_blank, are_clients_right, are_steps_right, is_fill_blank, is_no_slot_twice, has_each_record, has_each_step}
-use Rattle.store.specs.Loaded.{is_faulty, sequence_in, load_number, loaded_of}
-use Rattle.store.specs.Taken.{client_taken, step_taken}
-use Rattle.store.specs.declared.Loaded.{Loaded}
+use Rattle.store.specs.Loaded.{is_faulty, sequence_in, load_number, loaded_by, loaded_of}
+use Rattle.store.specs.Taken.{client_taken, step_taken, records_read, steps_read}
 use Rattle.store.proofs.Below.{every_both, every_same}
-use Rattle.store.proofs.Fields.{client_parts, client_fit, step_parts, slot_at, step_fit}
-use Rattle.store.proofs.Steps.{HasBits}
+use Rattle.store.proofs.Fields.{counts, edition_known, client_parts, client_fit, step_parts, slot_at, step_fit}
+use Rattle.store.proofs.Steps.{steps_length, step_of}
 use Rattle.store.proofs.Records.{record_used}
 
 -- ---- the loops' tests, one condition after the other
@@ -89,10 +95,11 @@ module _ (s : List ℕ) where
         ∙ every_both (λ k. step_fit s (step_place c k)) recorded n
         ∙ ap (λ (b : Bool). b && every_below n recorded) (every_both (λ k. step_right (step_at s (step_place c k))) (λ k. step_blank s (step_place c k)) n)
 
-    -- of each client there is a step where its slot is among the bits
-    each_step : (n bits : ℕ) → HasBits s c n bits → every_below c (λ j. has_bit bits (client_slot s j)) ≡ has_each_step s c n
-    each_step n bits h =
-        every_same (λ j. has_bit bits (client_slot s j)) (λ j. some_below n (λ k. eqb (step_slot s c k) (client_slot s j))) c (λ j _. h (client_slot s j))
+    -- of each client there is a step
+    each_step : (n : ℕ) (steps : List Step) → steps ≡ steps_to s c n → every_below c (λ k. some (is_of (client_slot s k)) steps) ≡ has_each_step s c n
+    each_step n steps e =
+        every_same (λ k. some (is_of (client_slot s k)) steps) (λ j. some_below n (λ k. eqb (step_slot s c k) (client_slot s j))) c (λ j _.
+        rw e (step_of s c (client_slot s j) n))
 
 -- ---- the reasons
 
@@ -140,7 +147,7 @@ module _ (s : List ℕ) (c n : ℕ) (clients : c ≡ client_count s) (steps : n 
   faulty_is = rw (← clients, ← steps) (no_reason (counts_right c n ∷ is_edition (edition_in s) ∷ eqb (length s) (512 * blocks_for c n) ∷ later))
 
   -- counts out of range, blocks missing or left over, or an unknown edition
-  pub head_wrong : (counts_right c n && eqb (length s) (512 * blocks_for c n) && is_edition (edition_in s)) ≡ false → is_faulty s ≡ true
+  head_wrong : (counts_right c n && eqb (length s) (512 * blocks_for c n) && is_edition (edition_in s)) ≡ false → is_faulty s ≡ true
   head_wrong e = faulty_is ∙ ap not (three_fail (counts_right c n) (is_edition (edition_in s)) (eqb (length s) (512 * blocks_for c n)) later e)
 
   -- where none is so, what the loops find
@@ -158,11 +165,14 @@ module _ (s : List ℕ) (c n : ℕ) (clients : c ≡ client_count s) (steps : n 
 
 -- ---- what is loaded
 
-abbrev Refused : ℕ → Loaded → Type 0
-Refused number r = (r.number ≡ number) × (r.sequence ≡ blank_sequence)
+-- what an answer by a test says of the test
+none_from : {X : Type 0} (b : Bool) (x : X) → then_some b x ≡ None → b ≡ false
+none_from false x e = refl
+none_from true x e = absurd (cc)
 
-loaded : (r : Loaded) (number : ℕ) (sequence : Sequence) → r.number ≡ number → r.sequence ≡ sequence → r ≡ record { number = number; sequence = sequence }
-loaded r number sequence e f = rw (← e, ← f)
+some_from : {X : Type 0} (b : Bool) (x y : X) → then_some b x ≡ Some y → (b ≡ true) × (x ≡ y)
+some_from true x y e = (refl, cc)
+some_from false x y e = absurd (cc)
 
 made :
     (q : Sequence) (count edition : ℕ) (steps : List Step) (records : List ClientRecord)
@@ -170,82 +180,123 @@ made :
     → q ≡ record { count = count; edition = edition; steps = steps; records = records }
 made q count edition steps records e f g h = rw (← e, ← f, ← g, ← h)
 
-module _ (s : List ℕ) where
-  refused_is : (number : ℕ) (r : Loaded) → load_number s ≡ number → eqb number completed ≡ false → Refused number r → r ≡ loaded_of s
-  unfolding loaded_of pick
-  refused_is number r e z l = rw (e, z) (loaded r number blank_sequence l.0 l.1)
+-- 17
+pub refused : (s : List ℕ) → is_faulty s ≡ true → None ≡ then_some (not (is_faulty s)) (sequence_in s)
+refused s e = rw e
 
-  -- 16
-  pub damaged : (r : Loaded) → is_damaged s ≡ true → Refused check_wrong r → r ≡ loaded_of s
-  unfolding load_number pick
-  damaged r d l = refused_is check_wrong r (rw d) refl l
+-- ---- of blocks as many as their counts say and of a known edition, what the loops found
 
-  -- 17
-  pub faulty : (r : Loaded) → is_damaged s ≡ false → is_faulty s ≡ true → Refused not_stored r → r ≡ loaded_of s
-  unfolding load_number pick
-  faulty r d f l = refused_is not_stored r (rw (d, f)) refl l
+-- as the edition stands in the first block
+abbrev pub less_in : List ℕ → ℕ
+less_in s = number_at 4 s 8
 
--- ---- of blocks that are intact, as many as their counts say and of a known edition, what the loops found
+pub record Head (s : List ℕ) (c n less : ℕ) : Type 0 where
+  pub clients : c ≡ client_count s
+  pub steps : n ≡ step_count s
+  pub read : less ≡ less_in s
+  pub right : counts_right c n ≡ true
+  pub whole : length s ≡ 512 * blocks_for c n
+  pub known : is_edition (edition_in s) ≡ true
 
-abbrev Whole : List ℕ → ℕ → ℕ → ℕ → Type 0
-Whole s c n edition =
-    (c ≡ client_count s) × (n ≡ step_count s) × (edition ≡ edition_in s) × (counts_right c n ≡ true) × (is_edition edition ≡ true) × (length s ≡ 512 * blocks_for c n)
-    × (is_damaged s ≡ false)
+-- the first block as it is tested
+module _ (s : List ℕ) {c n : ℕ} (clients : c ≡ client_count s) (steps : n ≡ step_count s) where
+  pub counts_wrong : counts_right c n ≡ false → is_faulty s ≡ true
+  counts_wrong e = head_wrong s c n clients steps (rw e)
 
-module _ (s : List ℕ) (c n edition : ℕ) (w : Whole s c n edition) where
+  module _ (right : counts_right c n ≡ true) {less m : ℕ} (read : less ≡ less_in s) (all : m ≡ blocks_for c n) where
+    tested : (eqb (length s) (512 * m) && ltb less 2) ≡ (eqb (length s) (512 * blocks_for c n) && is_edition (edition_in s))
+    tested = rw (all, read, edition_known (less_in s))
+
+    pub shape_wrong : (eqb (length s) (512 * m) && ltb less 2) ≡ false → is_faulty s ≡ true
+    shape_wrong e = head_wrong s c n clients steps (rw right (sym tested ∙ e))
+
+    pub head_right : (eqb (length s) (512 * m) && ltb less 2) ≡ true → Head s c n less
+    head_right e =
+        let parts = both (eqb (length s) (512 * blocks_for c n)) (is_edition (edition_in s)) (sym tested ∙ e) in
+        record { clients = clients; steps = steps; read = read; right = right; whole = eqb-true _ _ parts.0; known = parts.1 }
+
+module _ {s : List ℕ} {c n less : ℕ} (w : Head s c n less) where
   nothing_wrong : Bool
   nothing_wrong = clients_taken s c && steps_taken s c n (records_to s c) && (rests_blank s c n && has_each_step s c n)
 
   faulty_where : is_faulty s ≡ not nothing_wrong
   unfolding nothing_wrong
-  faulty_where = loops_find s c n w.0 w.1 w.3 (ap is_edition (sym w.2) ∙ w.4) w.5
-
-  found : (r : Loaded) → nothing_wrong ≡ false → Refused not_stored r → r ≡ loaded_of s
-  found r e l = faulty s r w.6 (faulty_where ∙ ap not e) l
+  faulty_where = loops_find s c n w.clients w.steps w.right w.known w.whole
 
   -- a client record that is not taken
-  pub wrong_client : (r : Loaded) → clients_taken s c ≡ false → Refused not_stored r → r ≡ loaded_of s
+  pub wrong_client : records_read s c ≡ None → is_faulty s ≡ true
   unfolding nothing_wrong
-  wrong_client r e l = found r (rw e) l
+  wrong_client e = let f : clients_taken s c ≡ false = none_from (clients_taken s c) _ e in faulty_where ∙ rw f
 
-  module _ (taken : clients_taken s c ≡ true) where
-    pub fields_right : are_clients_right s c n ≡ true
-    fields_right =
-        let h = both (are_clients_right s c n && clients_blank s c) (is_no_slot_twice s c n) (sym (clients_taken_lem s c n) ∙ taken) in
-        (both (are_clients_right s c n) (clients_blank s c) h.0).0
+  module _ (records : List ClientRecord) (r : records_read s c ≡ Some records) where
+    taken : clients_taken s c ≡ true
+    taken = (some_from (clients_taken s c) (records_to s c) records r).0
 
-    module _ (records : List ClientRecord) (same : records ≡ records_to s c) where
-      -- a step that is not taken
-      pub wrong_step : (r : Loaded) → steps_taken s c n records ≡ false → Refused not_stored r → r ≡ loaded_of s
+    same : steps_taken s c n (records_to s c) ≡ steps_taken s c n records
+    same = ap (steps_taken s c n) (some_from (clients_taken s c) (records_to s c) records r).1
+
+    -- a step that is not taken
+    pub wrong_step : steps_read s c n records ≡ None → is_faulty s ≡ true
+    unfolding nothing_wrong
+    wrong_step e =
+        let f : steps_taken s c n (records_to s c) ≡ false = same ∙ none_from (steps_taken s c n records) _ e in
+        faulty_where ∙ rw (taken, f)
+
+    -- every client record and every step was taken; a and b are the tests of the rest of the blocks and of a step for each record
+    module _ (cells : List Step) (t : steps_read s c n records ≡ Some cells) (a b : Bool) (rest : a ≡ rests_blank s c n)
+        (each : b ≡ every_below c (λ k. some (is_of (client_slot s k)) (take n cells))) where
+      all_taken : steps_taken s c n (records_to s c) ≡ true
+      all_taken = same ∙ (some_from (steps_taken s c n records) (pad_to blank_step 64 (steps_to s c n)) cells t).0
+
+      cells_are : pad_to blank_step 64 (steps_to s c n) ≡ cells
+      cells_are = (some_from (steps_taken s c n records) (pad_to blank_step 64 (steps_to s c n)) cells t).1
+
+      front : take n cells ≡ steps_to s c n
+      front =
+          let long : length (steps_to s c n) ≡ n = steps_length s c n in
+          let few : n ≤ 64 = (counts c n w.right).1 in
+          ap (take n) (sym cells_are) ∙ ap (λ (m : ℕ). take m (pad_to blank_step 64 (steps_to s c n))) (sym long)
+          ∙ pad_take blank_step 64 (steps_to s c n) (omega arith)
+
+      left : is_faulty s ≡ not (a && b)
       unfolding nothing_wrong
-      wrong_step r e l = let f : steps_taken s c n (records_to s c) ≡ false = ap (steps_taken s c n) (sym same) ∙ e in found r (rw (taken, f)) l
+      left =
+          let last : b ≡ has_each_step s c n = each ∙ each_step s c n (take n cells) front in
+          faulty_where ∙ rw (taken, all_taken, rest, last)
 
--- every client record and every step was taken; a and b are the tests of the rest of the blocks and of a step for each record
-pub record Taken (s : List ℕ) (c n edition : ℕ) (records : List ClientRecord) (bits : ℕ) (a b : Bool) : Type 0 where
-  pub whole : Whole s c n edition
-  pub clients : clients_taken s c ≡ true
-  pub same : records ≡ records_to s c
-  pub steps : steps_taken s c n records ≡ true
-  pub has : HasBits s c n bits
-  pub rest : a ≡ rests_blank s c n
-  pub each : b ≡ every_below c (λ j. has_bit bits (client_slot s j))
+      -- fill that is not zero after what a block holds, or a record without a step
+      pub wrong_rest : (a && b) ≡ false → is_faulty s ≡ true
+      wrong_rest e = left ∙ ap not e
 
-module _ {s : List ℕ} {c n edition : ℕ} {records : List ClientRecord} {bits : ℕ} {a b : Bool} (k : Taken s c n edition records bits a b) where
-  left : nothing_wrong s c n edition k.whole ≡ (a && b)
-  unfolding nothing_wrong
-  left =
-      let f : steps_taken s c n (records_to s c) ≡ true = ap (steps_taken s c n) (sym k.same) ∙ k.steps in
-      rw (k.clients, f, k.rest, k.each, each_step s c n bits k.has)
+      -- nothing is wrong
+      pub accepted :
+          (a && b) ≡ true
+          → Some record { count = n; edition = less + 1; steps = cells; records = records } ≡ then_some (not (is_faulty s)) (sequence_in s)
+      unfolding sequence_in
+      accepted e =
+          let f : is_faulty s ≡ false = left ∙ ap not e in
+          let counts : n ≡ step_count s = w.steps in
+          let edition : less + 1 ≡ edition_in s = ap (λ (k : ℕ). k + 1) w.read in
+          let all : steps_to s c n ≡ steps_to s (client_count s) (step_count s) = rw (← w.clients, ← w.steps) in
+          let there : pad_to blank_step 64 (steps_to s (client_count s) (step_count s)) ≡ cells = ap (pad_to blank_step 64) (sym all) ∙ cells_are in
+          let stand : records_to s (client_count s) ≡ records = rw (← w.clients) (some_from (clients_taken s c) (records_to s c) records r).1 in
+          rw (f, ← there, ← stand, counts, edition)
 
-  -- fill that is not zero after what a block holds, or a record without a step
-  pub wrong_rest : (r : Loaded) → (a && b) ≡ false → Refused not_stored r → r ≡ loaded_of s
-  wrong_rest r e l = found s c n edition k.whole r (left ∙ e) l
+-- ---- the answer
 
-  -- nothing is wrong
-  pub accepted :
-      (a && b) ≡ true → (q : Sequence) → q.count ≡ n → q.edition ≡ edition → q.steps ≡ pad_to blank_step 64 (steps_to s c n) → q.records ≡ records
-      → record { number = completed; sequence = q } ≡ loaded_of s
-  unfolding loaded_of load_number sequence_in pick
-  accepted e q count known steps all =
-      let f : is_faulty s ≡ false = faulty_where s c n edition k.whole ∙ ap not (left ∙ e) in
-      rw (k.whole.6, f, made q n edition (pad_to blank_step 64 (steps_to s c n)) (records_to s c) count known steps (all ∙ k.same), k.whole.0, k.whole.1, k.whole.2)
+-- 16
+pub damaged : (s : List ℕ) → is_damaged s ≡ true → loaded_by (Err CheckWrong) ≡ loaded_of s
+unfolding loaded_of load_number pick
+damaged s e = rw e
+
+-- 17, or what is said
+pub answered : (s : List ℕ) → is_damaged s ≡ false → loaded_by (ok_or (then_some (not (is_faulty s)) (sequence_in s)) NotStored) ≡ loaded_of s
+unfolding loaded_of load_number pick
+answered s e = rw e (go (is_faulty s))
+  where
+    go :
+        (b : Bool)
+        → loaded_by (ok_or (then_some (not b) (sequence_in s)) NotStored)
+        ≡ record { number = pick b not_stored completed; sequence = pick (eqb (pick b not_stored completed) completed) (sequence_in s) blank_sequence }
+    go true = refl
+    go false = refl

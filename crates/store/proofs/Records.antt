@@ -15,6 +15,7 @@ use Rattle.store.specs.Below.{some_below}
 use Rattle.store.specs.Blocks.{client_place}
 use Rattle.store.specs.Stored.{slots_in}
 use Rattle.store.specs.Loaded.{client_at, client_slot, records_to}
+use Rattle.store.proofs.Below.{some_suc}
 use Rattle.store.proofs.Slots.{slots_one_more}
 
 blank_unused : is_used blank_record ≡ false
@@ -29,6 +30,9 @@ module _ (s : List ℕ) where
   -- one of the first k client records has slot x
   abbrev pub has_slot : ℕ → ℕ → Bool
   has_slot k x = some_below k (λ j. eqb (client_slot s j) x)
+
+  one_more : (k x : ℕ) → has_slot (suc k) x ≡ (has_slot k x || eqb (client_slot s k) x)
+  one_more k x = some_suc (λ j. eqb (client_slot s j) x) k
 
   abbrev pub record_to : ℕ → ℕ → ClientRecord
   record_to k x = get_or (records_to s k) x blank_record
@@ -51,7 +55,7 @@ module _ (s : List ℕ) where
   pub record_none : (k x : ℕ) → x < 8 → has_slot k x ≡ false → record_to k x ≡ blank_record
   record_none zero x h e = get_or-replicate 8 x blank_record blank_record h
   record_none (suc k) x h e =
-      let n = neither (has_slot k x) (eqb (client_slot s k) x) e in
+      let n = neither (has_slot k x) (eqb (client_slot s k) x) (sym (one_more k x) ∙ e) in
       record_other k x (eqb-false _ _ n.1) ∙ record_none k x h n.0
 
   -- client record j has slot x, and is the one that stands there
@@ -60,7 +64,7 @@ module _ (s : List ℕ) where
 
   pub record_some : (k x : ℕ) → x < 8 → has_slot k x ≡ true → (j : ℕ) × (j < k) × Holds k x j
   record_some zero x h e = absurd (true≢false (sym e))
-  record_some (suc k) x h e = go (eqb (client_slot s k) x) refl (has_slot k x) refl (record_some k x h) e
+  record_some (suc k) x h e = go (eqb (client_slot s k) x) refl (has_slot k x) refl (record_some k x h) (sym (one_more k x) ∙ e)
     where
       go :
           (b : Bool) → eqb (client_slot s k) x ≡ b → (a : Bool) → has_slot k x ≡ a → (has_slot k x ≡ true → (j : ℕ) × (j < k) × Holds k x j)

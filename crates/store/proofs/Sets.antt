@@ -1,27 +1,12 @@
--- Laws of `sets`: a list that is stored one element after the other, what stands at a place afterwards, and a longer list over a shorter one.
+-- Laws of `sets`: what stands at a place afterwards, a longer list over a shorter one, and what is stored in a part.
 use Prim.Native.Nat.{ℕ, suc, ◌+◌, ◌≤◌, ◌<◌}
-use native.Mathlib.Nat.{add-zero}
-use native.Mathlib.Numerals.{add-one}
 use native.Mathlib.Omega.{arith}
 use mathlib.Core.Path.{◌≡◌, refl, sym, ap, ◌∙◌}
 use mathlib.Core.List.{List, [], ◌∷◌, ◌++◌, append_assoc}
-use lib.ListN.{length, get_or, take, drop, set, length-drop, drop_of_length-le, take-append-drop}
-use lib.Seq.{sets, sets-eq, set-set, set_comm, drop-cons, drop_at, drop-drop, take_at, length-take-le}
-
--- ---- one element after the other, from the k-th on
-
-module _ (l : List ℕ) (i k : ℕ) (out : List ℕ) where
-  pub cell_start : sets out i l ≡ sets out (i + 0) (drop 0 l)
-  cell_start = ap (λ (j : ℕ). sets out j l) (sym (add-zero i))
-
-  pub cell_next : (x : ℕ) → k < length l → get_or l k 0 ≡ x → sets out (i + k) (drop k l) ≡ sets (set out (i + k) x) (i + (k + 1)) (drop (k + 1) l)
-  cell_next x h e =
-      let z : suc (i + k) ≡ i + (k + 1) = omega arith in
-      let rest : drop k l ≡ x ∷ drop (k + 1) l = drop-cons l k 0 h ∙ rw (e, add-one k) in
-      ap (sets out (i + k)) rest ∙ ap (λ (j : ℕ). sets (set out (i + k) x) j (drop (k + 1) l)) z
-
-  pub cell_end : length l ≤ k → sets out (i + k) (drop k l) ≡ out
-  cell_end h = ap (sets out (i + k)) (drop_of_length-le l {i = k} h)
+use borrow.Rule.Slice.PartMut.{put_mid}
+use Rattle.std.proofs.lemmas.List.{drop-append-le}
+use lib.ListN.{length, take, drop, set, length-drop, take-append-drop}
+use lib.Seq.{sets, sets-eq, set-set, set_comm, drop_at, drop-drop, take_at, length-take-le}
 
 -- ---- what stands at a place
 
@@ -54,3 +39,23 @@ sets_over l i (x ∷ xs) [] h = absurd (omega arith)
 sets_over l i (x ∷ xs) (y ∷ ys) h =
     ap (λ (m : List ℕ). sets m (suc i) ys) (set_sets (set l i x) i (suc i) y xs (omega arith) ∙ ap (λ (m : List ℕ). sets m (suc i) xs) (set-set l i x y))
     ∙ sets_over (set l i y) (suc i) xs ys (omega arith)
+
+-- ---- a part, and what is stored in it
+
+-- the part is replaced
+pub part_put : (l : List ℕ) (i n : ℕ) (ys : List ℕ) → length ys ≡ n → i + n ≤ length l → put_mid i n l ys ≡ sets l i ys
+part_put l i n ys e h =
+    let fits : i + length ys ≤ length l = omega arith in
+    rw (sets-eq ys l i fits, e, append_assoc (take i l) ys (drop (i + n) l), ← drop-drop n i l)
+
+-- a list is stored at its start
+pub part_set : (l : List ℕ) (i n : ℕ) (ys : List ℕ) → length ys ≤ n → i + n ≤ length l → put_mid i n l (sets (take n (drop i l)) 0 ys) ≡ sets l i ys
+part_set l i n ys e h =
+    let d : List ℕ = drop i l in
+    let long : length (take n d) ≡ n = length-take-le n d (omega (arith, length-drop i l)) in
+    let fits : i + length ys ≤ length l = omega arith in
+    let inside : 0 + length ys ≤ length (take n d) = omega arith in
+    let start : 0 + length ys ≡ length ys = omega arith in
+    let rest : drop (length ys) (take n d) ++ drop n d ≡ drop (i + length ys) l =
+    sym (drop-append-le (length ys) (take n d) (drop n d) (omega arith)) ∙ ap (drop (length ys)) (take-append-drop n d) ∙ drop-drop (length ys) i l in
+    rw (sets-eq ys (take n d) 0 inside, start, sets-eq ys l i fits, append_assoc ys (drop (length ys) (take n d)) (drop n d), rest, append_assoc (take i l) ys (drop (i + length ys) l))

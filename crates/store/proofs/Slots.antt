@@ -7,18 +7,18 @@ use mathlib.Core.Path.{◌≡◌, refl, sym, ap, ◌∙◌}
 use mathlib.Core.Bool.{Bool, true, false, cond}
 use mathlib.Core.List.{List, [], ◌∷◌, ◌++◌, append-nil}
 use lib.Dec.{eqb}
-use lib.ListN.{length, get_or, take, drop, set, length-append, length-take}
+use lib.ListN.{length, get_or, take, length-take}
 use lib.Seq.{take-suc}
 use borrow.Author.Tests.{eq-eqb, ne_eqb, eqb-true, eqb-false}
-use Rattle.arrays.specs.Arrays.{those, pad_to}
+use Rattle.arrays.specs.Arrays.{those}
 use Rattle.arrays.specs.Every.{Every, EveryTwo}
-use Rattle.arrays.proofs.Fill.{those_append, those_short, pad_set}
-use Rattle.arrays.proofs.Every.{every_at, pairs_those}
+use Rattle.arrays.proofs.Fill.{those_append, those_short}
+use Rattle.arrays.proofs.Every.{pairs_those}
 use Rattle.arrays.proofs.Pad.{any_default}
 use Rattle.client.specs.Records.{is_used, blank_record}
 use Rattle.client.specs.declared.ClientRecord.{ClientRecord}
-use Rattle.store.specs.Stored.{slots_in, client_bytes, clients_in}
-use Rattle.store.proofs.Lists.{those_pass, among_those, part_at, pad_at}
+use Rattle.store.specs.Stored.{slots_in}
+use Rattle.store.proofs.Lists.{those_pass, among_those}
 
 -- ---- n numbers from i on
 
@@ -88,8 +88,8 @@ module _ (records : List ClientRecord) where
   unfolding slots_in
   slots_pass f = those_pass (is_there records) f (from 0 8) (below 0 8 8 (omega arith))
 
-  slot_small : (k : ℕ) → k < length (slots_in records) → get_or (slots_in records) k 0 < 8
-  slot_small k h = every_at (λ x. x < 8) (slots_in records) k 0 h (slots_pass (λ slot l _. l))
+  pub slots_small : Every (λ x. x < 8) (slots_in records)
+  slots_small = slots_pass (λ slot l _. l)
 
   -- where one of them stands
   pub slots_among : (slot : ℕ) → slot < 8 → is_there records slot ≡ true → (j : ℕ) × (j < length (slots_in records)) × (get_or (slots_in records) j 0 ≡ slot)
@@ -98,24 +98,6 @@ module _ (records : List ClientRecord) where
       let e : get_or (from 0 8) slot 0 ≡ slot = eight_at slot h in
       let m = among_those (is_there records) 0 (from 0 8) slot (omega (arith, length_from 0 8)) (ap (is_there records) e ∙ t) in
       (m.0, m.1, m.2 ∙ e)
-
-  -- the array that holds them
-  module _ (slots : List ℕ) (e : slots ≡ pad_to 0 8 (slots_in records)) where
-    slot_is : (k : ℕ) → k < length (slots_in records) → get_or slots k 0 ≡ get_or (slots_in records) k 0
-    slot_is k h = ap (λ (l : List ℕ). get_or l k 0) e ∙ pad_at 0 8 (slots_in records) k 0 h slots_few
-
-    pub slot_in : (k : ℕ) → k < length (slots_in records) → get_or slots k 0 < 8
-    slot_in k h = rw (slot_is k h) (slot_small k h)
-
-    -- the bytes of a client record, by its slot there
-    pub client_at_lem :
-        (n k j : ℕ) (d : ClientRecord) → k + n ≤ length (slots_in records) → j < n → length records ≡ 8
-        → get_or (take n (drop k (clients_in records))) j [] ≡ client_bytes (get_or slots (k + j) 0) (get_or records (get_or slots (k + j) 0) d)
-    client_at_lem n k j d fits h m =
-        let g : k + j < length (slots_in records) = omega arith in
-        part_at (λ (slot : ℕ). client_bytes slot (get_or records slot blank_record)) (slots_in records) n k fits j 0 [] h
-        ∙ ap (λ (slot : ℕ). client_bytes slot (get_or records slot blank_record)) (sym (slot_is (k + j) g))
-        ∙ ap (client_bytes (get_or slots (k + j) 0)) (any_default records (get_or slots (k + j) 0) blank_record d (omega (arith, slot_in (k + j) g)))
 
   -- ---- those of the first i slots
 
@@ -140,14 +122,8 @@ module _ (records : List ClientRecord) where
     pub slots_skip : is_there records i ≡ false → slots_to (i + 1) ≡ slots_to i
     slots_skip e = grown ∙ rw e (append-nil (slots_to i))
 
-    slots_more : is_there records i ≡ true → slots_to (i + 1) ≡ slots_to i ++ i ∷ []
+    pub slots_more : is_there records i ≡ true → slots_to (i + 1) ≡ slots_to i ++ i ∷ []
     slots_more e = grown ∙ rw e
-
-    pub slots_count : is_there records i ≡ true → length (slots_to i) + 1 ≡ length (slots_to (i + 1))
-    slots_count e = sym (ap length (slots_more e) ∙ length-append (slots_to i) (i ∷ []))
-
-    pub slots_store : (n : ℕ) → n ≡ length (slots_to i) → is_there records i ≡ true → set (pad_to 0 8 (slots_to i)) n i ≡ pad_to 0 8 (slots_to (i + 1))
-    slots_store n c e = pad_set 0 8 (slots_to i) n i c (omega (arith, slots_short)) ∙ ap (pad_to 0 8) (sym (slots_more e))
 
     -- by the record that stands in slot i
     module _ (d : ClientRecord) (k : i < length records) where

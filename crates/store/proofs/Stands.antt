@@ -11,7 +11,7 @@ use borrow.Author.Tests.{eq-eqb}
 use Rattle.octets.specs.Octets.{number_at, bytes_of}
 use Rattle.octets.proofs.Laws.{past, number_of_bytes}
 use Rattle.store.specs.Loaded.{byte_at, is_blank}
-use Rattle.store.proofs.Below.{every_below_lem}
+use Rattle.store.proofs.Below.{range_below, every_below_lem}
 
 -- the list l stands at place p of s
 pub record At (s : List ℕ) (p : ℕ) (l : List ℕ) : Type 0 where
@@ -43,5 +43,6 @@ module _ {s : List ℕ} {p : ℕ} where
   -- fill
   pub at_blank : (m j : ℕ) → At s p (replicate m 0) → j - p ≤ m → is_blank s p j ≡ true
   at_blank m j h e =
-      every_below_lem (λ k. eqb (byte_at s (p + k)) 0) (j - p) (λ k b.
+      range_below (λ at. eqb (byte_at s at) 0) p (j - p)
+      ∙ every_below_lem (λ k. eqb (byte_at s (p + k)) 0) (j - p) (λ k b.
       eq-eqb (get_or s (p + k) 0) 0 (at_byte k h (omega (arith, length-replicate {A = ℕ} m 0)) ∙ get_or-replicate m k 0 0 (omega arith)))

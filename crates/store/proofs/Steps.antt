@@ -1,21 +1,20 @@
 -- The steps as they are read from the blocks: how many, each of them, and the slots of which there is one.
-use Prim.Native.Nat.{ℕ, zero, suc, ◌+◌, ◌<◌}
-use mathlib.Core.Path.{◌≡◌, refl, ◌∙◌}
-use mathlib.Core.Bool.{Bool, or_comm}
+use Prim.Native.Nat.{ℕ, zero, suc, ◌<◌}
+use mathlib.Core.Path.{◌≡◌, refl, sym, ◌∙◌}
+use mathlib.Core.Bool.{Bool}
 use mathlib.Core.List.{List, [], ◌∷◌}
 use native.Mathlib.Numerals.{add-one}
 use native.Mathlib.Omega.{arith}
 use lib.Dec.{eqb}
 use lib.ListN.{length, length-append}
-use Rattle.octets.specs.Bits.{has_bit, with_bit}
-use Rattle.octets.proofs.BitLaws.{has_with}
 use Rattle.arrays.specs.{Arrays.some, Every.Every}
 use Rattle.arrays.proofs.Every.{every_more, some_more}
+use Rattle.sequence.specs.Sound.{is_of}
 use Rattle.sequence.specs.declared.Step.{Step}
 use Rattle.store.specs.Below.{some_below}
 use Rattle.store.specs.Blocks.{step_place}
 use Rattle.store.specs.Loaded.{step_at, step_slot, steps_to}
-use Rattle.store.proofs.Below.{some_next}
+use Rattle.store.proofs.Below.{some_suc}
 
 -- the first n steps, of c clients
 module _ (s : List ℕ) (c : ℕ) where
@@ -29,13 +28,9 @@ module _ (s : List ℕ) (c : ℕ) where
 
   pub some_step : (p : Step → Bool) (n : ℕ) → some p (steps_to s c n) ≡ some_below n (λ k. p (step_at s (step_place c k)))
   some_step p zero = refl
-  some_step p (suc n) = some_more p (steps_to s c n) (step_at s (step_place c n)) ∙ rw (some_step p n)
+  some_step p (suc n) = some_more p (steps_to s c n) (step_at s (step_place c n)) ∙ rw (some_step p n) (sym (some_suc (λ k. p (step_at s (step_place c k))) n))
 
-  -- the slots of the first k steps, as bits
-  abbrev pub HasBits : ℕ → ℕ → Type 0
-  HasBits k bits = (x : ℕ) → has_bit bits x ≡ some_below k (λ j. eqb (step_slot s c j) x)
-
-  pub one_bit : (k bits : ℕ) → HasBits k bits → HasBits (k + 1) (with_bit bits (step_slot s c k))
-  one_bit k bits h x =
-      let slot = eqb (step_slot s c k) x in
-      has_with bits (step_slot s c k) x ∙ rw (h x, some_next (λ j. eqb (step_slot s c j) x) k) (or_comm slot (some_below k (λ j. eqb (step_slot s c j) x)))
+  -- one of the first n steps is of the client in slot x
+  pub step_of : (x n : ℕ) → some (is_of x) (steps_to s c n) ≡ some_below n (λ k. eqb (step_slot s c k) x)
+  unfolding step_at
+  step_of x n = some_step (is_of x) n

@@ -5,9 +5,8 @@ use mathlib.Core.Bool.{Bool, true, false, not, ◌&&◌}
 use mathlib.Core.List.{List}
 use native.Mathlib.Numerals.{add-one}
 use lib.Dec.{eqb}
-use lib.ListN.{length, get_or, set}
-use borrow.Author.Tests.{eq-eqb, ne_eqb, not-true, not-false}
-use Rattle.octets.specs.Bits.{with_bit}
+use lib.ListN.{length, get_or, set, drop}
+use borrow.Author.Tests.{eq-eqb, ne_eqb}
 use Rattle.octets.proofs.Tests.{both}
 use Rattle.arrays.specs.Arrays.{pad_to}
 use Rattle.arrays.proofs.Fill.{pad_set}
@@ -18,10 +17,11 @@ use Rattle.sequence.specs.Sequence.{blank_step}
 use Rattle.sequence.specs.declared.Step.{Step}
 use Rattle.store.specs.Blocks.{client_place, step_place}
 use Rattle.store.specs.Fields.{step_right}
-use Rattle.store.specs.Loaded.{byte_at, client_at, client_right, client_blank, step_at, step_blank, client_slot, step_slot, records_to, steps_to}
+use Rattle.store.specs.Loaded.{client_at, client_right, client_blank, step_at, step_blank, client_slot, step_slot, records_to, steps_to}
 use Rattle.store.specs.Taken.{client_taken, step_taken}
+use Rattle.store.proofs.Parts.{client_right_in, client_blank_in, client_at_in, step_at_in, step_blank_in}
 use Rattle.store.proofs.Fields.{client_parts, client_fit, step_parts, slot_at, step_fit}
-use Rattle.store.proofs.Steps.{steps_length, HasBits, one_bit}
+use Rattle.store.proofs.Steps.{steps_length}
 use Rattle.store.proofs.Records.{records_length}
 
 -- the record of a slot, whatever is read past the last
@@ -30,33 +30,30 @@ looked :
     → is_used (get_or records y blank_record) ≡ not (eqb (get_or records x d).used 0)
 looked records x y d e h = rw (← e) (ap is_used (any_default records x blank_record d h))
 
--- ---- client record k, at place p; r and b are the tests of its fields and of its fill
+-- ---- client record k, where these bytes begin; r and b are the tests of its fields and of its fill
 
-pub record ReadClient (s : List ℕ) (k p : ℕ) (r b : Bool) : Type 0 where
-  pub at : p ≡ client_place k
-  pub right : r ≡ client_right s p
-  pub blank : b ≡ client_blank s p
+pub record ReadClient (s : List ℕ) (k : ℕ) (bytes : List ℕ) (r b : Bool) : Type 0 where
+  pub at : bytes ≡ drop (client_place k) s
+  pub right : r ≡ client_right bytes 0
+  pub blank : b ≡ client_blank bytes 0
 
-module _ {s : List ℕ} {k p : ℕ} {r b : Bool} (i : ReadClient s k p r b) where
+module _ {s : List ℕ} {k : ℕ} {bytes : List ℕ} {r b : Bool} (i : ReadClient s k bytes r b) where
   fits : client_fit s k ≡ (r && b)
-  fits = rw (i.right, i.blank, i.at)
+  fits = rw (i.right, i.blank, i.at, client_right_in s (client_place k), client_blank_in s (client_place k))
 
-  pub client_wrong : not (r && b) ≡ true → client_taken s k ≡ false
-  client_wrong t = let h : client_fit s k ≡ false = fits ∙ not-true (r && b) t in rw h
+  pub client_wrong : (r && b) ≡ false → client_taken s k ≡ false
+  client_wrong t = let h : client_fit s k ≡ false = fits ∙ t in rw h
 
-  module _ (t : not (r && b) ≡ false) (slot : ℕ) (read : slot ≡ byte_at s p) where
+  module _ (t : (r && b) ≡ true) (slot : ℕ) (same : slot ≡ client_slot s k) where
     passed : client_fit s k ≡ true
-    passed = fits ∙ not-false (r && b) t
-
-    same : slot ≡ client_slot s k
-    same = read ∙ ap (byte_at s) i.at
+    passed = fits ∙ t
 
     pub slot_small : slot < 8
     slot_small = rw same (client_parts s (client_place k) (both (client_right s (client_place k)) (client_blank s (client_place k)) passed).0).0
 
     module _ (records : List ClientRecord) (all : records ≡ records_to s k) where
-      pub client_stored : (x : ClientRecord) → x ≡ client_at s p → set records slot x ≡ records_to s (k + 1)
-      client_stored x e = rw (add-one k, e, all, same, i.at)
+      pub client_stored : (x : ClientRecord) → x ≡ client_at bytes 0 → set records slot x ≡ records_to s (k + 1)
+      client_stored x e = rw (add-one k, e, all, same, i.at, client_at_in s (client_place k))
 
       module _ (d : ClientRecord) where
         seat : is_used (get_or (records_to s k) (client_slot s k) blank_record) ≡ not (eqb (get_or records slot d).used 0)
@@ -70,36 +67,36 @@ module _ {s : List ℕ} {k p : ℕ} {r b : Bool} (i : ReadClient s k p r b) wher
         pub client_taken_lem : (get_or records slot d).used ≡ 0 → client_taken s k ≡ true
         client_taken_lem u = rw (passed, seat, eq-eqb (get_or records slot d).used 0 u)
 
--- ---- x is step k of c clients, at place p; r and b are the tests of its fields and of its fill
+-- ---- x is step k of c clients, where these bytes begin; r and b are the tests of its fields and of its fill
 
-pub record ReadStep (s : List ℕ) (c k p : ℕ) (x : Step) (r b : Bool) : Type 0 where
-  pub at : p ≡ step_place c k
-  pub read : x ≡ step_at s p
+pub record ReadStep (s : List ℕ) (c k : ℕ) (bytes : List ℕ) (x : Step) (r b : Bool) : Type 0 where
+  pub at : bytes ≡ drop (step_place c k) s
+  pub read : x ≡ step_at bytes 0
   pub right : r ≡ step_right x
-  pub blank : b ≡ step_blank s p
+  pub blank : b ≡ step_blank bytes 0
 
-module _ {s : List ℕ} {c k p : ℕ} {x : Step} {r b : Bool} (i : ReadStep s c k p x r b) where
+module _ {s : List ℕ} {c k : ℕ} {bytes : List ℕ} {x : Step} {r b : Bool} (i : ReadStep s c k bytes x r b) where
+  step_is : x ≡ step_at s (step_place c k)
+  step_is = i.read ∙ ap (λ (l : List ℕ). step_at l 0) i.at ∙ step_at_in s (step_place c k)
+
   step_fits : step_fit s (step_place c k) ≡ (r && b)
-  step_fits = rw (i.right, i.blank, i.read, i.at)
+  step_fits = rw (i.right, i.blank, step_is, i.at, step_blank_in s (step_place c k))
 
-  pub step_wrong : (records : List ClientRecord) → not (r && b) ≡ true → step_taken s records (step_place c k) ≡ false
-  step_wrong records t = let h : step_fit s (step_place c k) ≡ false = step_fits ∙ not-true (r && b) t in rw h
+  pub step_wrong : (records : List ClientRecord) → (r && b) ≡ false → step_taken s records (step_place c k) ≡ false
+  step_wrong records t = let h : step_fit s (step_place c k) ≡ false = step_fits ∙ t in rw h
 
   step_same : x.slot ≡ step_slot s c k
-  step_same = ap (λ (y : Step). y.slot) i.read ∙ slot_at s p ∙ ap (byte_at s) i.at
+  step_same = ap (λ (y : Step). y.slot) step_is ∙ slot_at s (step_place c k)
 
   pub step_stored : k < 64 → set (pad_to blank_step 64 (steps_to s c k)) k x ≡ pad_to blank_step 64 (steps_to s c (k + 1))
-  step_stored h = rw (add-one k, i.read, i.at) (pad_set blank_step 64 (steps_to s c k) k (step_at s (step_place c k)) (sym (steps_length s c k)) h)
+  step_stored h = rw (add-one k, step_is) (pad_set blank_step 64 (steps_to s c k) k (step_at s (step_place c k)) (sym (steps_length s c k)) h)
 
-  pub step_bit : (bits : ℕ) → HasBits s c k bits → HasBits s c (k + 1) (with_bit bits x.slot)
-  step_bit bits h = rw step_same (one_bit s c k bits h)
-
-  module _ (t : not (r && b) ≡ false) where
+  module _ (t : (r && b) ≡ true) where
     step_passed : step_fit s (step_place c k) ≡ true
-    step_passed = step_fits ∙ not-false (r && b) t
+    step_passed = step_fits ∙ t
 
     pub step_slot_small : x.slot < 8
-    step_slot_small = (step_parts x (sym i.right ∙ (both r b (not-false (r && b) t)).0)).0
+    step_slot_small = (step_parts x (sym i.right ∙ (both r b t).0)).0
 
     module _ (records : List ClientRecord) (all : length records ≡ 8) (d : ClientRecord) where
       step_seat : is_used (get_or records (step_slot s c k) blank_record) ≡ not (eqb (get_or records x.slot d).used 0)

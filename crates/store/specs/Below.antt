@@ -1,10 +1,9 @@
 -- What holds of every number below n, and of some of them.
-use Rattle.std.specs.Prelude.{ℕ, zero, suc, Bool, true, false, ◌&&◌, ◌||◌}
+use Rattle.std.specs.Prelude.{ℕ, Bool}
+use Rattle.std.specs.List.{list_all, list_any, range_with_len}
 
 abbrev pub every_below : ℕ → (ℕ → Bool) → Bool
-every_below zero p = true
-every_below (suc n) p = every_below n p && p n
+every_below n p = list_all p (range_with_len 0 n)
 
 abbrev pub some_below : ℕ → (ℕ → Bool) → Bool
-some_below zero p = false
-some_below (suc n) p = some_below n p || p n
+some_below n p = list_any p (range_with_len 0 n)

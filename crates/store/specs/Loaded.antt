@@ -1,9 +1,12 @@
 -- 02, request 1, loading: the sequence that blocks say, and the numbers. "Refusals: 16 the check of a whole lent block, 17 counts or fields out of range
 -- (1 to 8 clients, 1 to 64 steps, fields as in document 01), fill not zero, a slot twice, blocks missing or left over, a step without its client's record
 -- or a record without a step". Request 11: "an unknown edition gives 17".
-use Rattle.std.specs.Prelude.{ℕ, zero, suc, ◌+◌, ◌-◌, ◌*◌, Bool, not, ◌&&◌, List, [], ◌∷◌, ◌++◌, eqb, leb, ltb, length, get_or, set, replicate}
+use Rattle.std.specs.Prelude.{ℕ, zero, suc, ◌+◌, ◌-◌, ◌*◌, Result, Ok, Err, Bool, not, ◌&&◌, List, [], ◌∷◌, ◌++◌, eqb, leb, ltb, length, get_or, set, replicate}
+use Rattle.std.specs.List.{list_all, range_with_len}
 use Rattle.octets.specs.{Pick.pick, Octets.number_at, Label.label_at}
 use Rattle.octets.specs.Numbers.{completed, check_wrong, not_stored}
+use Rattle.octets.specs.Refusals.{refusal_number}
+use Rattle.octets.specs.declared.numbers.Refusal.{Refusal}
 use Rattle.pool.specs.{Ranges.label_right, StageTwo.character_right}
 use Rattle.arrays.specs.Arrays.{some, pad_to}
 use Rattle.client.specs.{Clients.slot_count, Records.blank_record, declared.ClientRecord.ClientRecord}
@@ -13,14 +16,23 @@ use Rattle.sequence.specs.{declared.Step.Step, declared.Sequence.Sequence}
 use Rattle.store.specs.Below.{every_below, some_below}
 use Rattle.store.specs.Blocks.{block_bytes, content_bytes, is_damaged, blocks_for, used_bytes, client_place, step_place}
 use Rattle.store.specs.Fields.{step_right}
-use Rattle.store.specs.declared.Loaded.{Loaded}
+
+-- what blocks say: number is 0, 16 or 17, and the sequence is blank where it is not 0
+pub record Loaded : Type 0 where
+  pub number : ℕ
+  pub sequence : Sequence
+
+-- the answer of loading, in these words
+abbrev pub loaded_by : Result Sequence Refusal → Loaded
+loaded_by (Ok q) = record { number = completed; sequence = q }
+loaded_by (Err why) = record { number = refusal_number why; sequence = blank_sequence }
 
 abbrev pub byte_at : List ℕ → ℕ → ℕ
 byte_at s i = get_or s i 0
 
 -- zeros from place i up to place j, not counted
 abbrev pub is_blank : List ℕ → ℕ → ℕ → Bool
-is_blank s i j = every_below (j - i) (λ k. eqb (byte_at s (i + k)) 0)
+is_blank s i j = list_all (λ at. eqb (byte_at s at) 0) (range_with_len i (j - i))
 
 -- ---- a client record at place p
 

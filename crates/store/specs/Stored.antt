@@ -30,8 +30,12 @@ step_bytes s =
 unfoldable pub slots_in : List ClientRecord → List ℕ
 slots_in records = those (λ slot. is_used (get_or records slot blank_record)) (0 ∷ 1 ∷ 2 ∷ 3 ∷ 4 ∷ 5 ∷ 6 ∷ 7 ∷ [])
 
+-- the client records of these slots
+abbrev pub clients_at : List ℕ → List ClientRecord → List (List ℕ)
+clients_at slots records = map (λ slot. client_bytes slot (get_or records slot blank_record)) slots
+
 abbrev pub clients_in : List ClientRecord → List (List ℕ)
-clients_in records = map (λ slot. client_bytes slot (get_or records slot blank_record)) (slots_in records)
+clients_in records = clients_at (slots_in records) records
 
 -- "the first holds the client records' count and the step count"; "The edition stands in the first block": the edition less one, so that in edition 1 the
 -- block is what it was before there were editions

@@ -1,15 +1,14 @@
 -- What loading accepts is, byte for byte, the blocks of the sequence that it gives: each count, the edition, each fill byte, each check and how many blocks
 -- there are. Only the order of the client records is free: they are stored lowest slot first, and read in any order.
-use Rattle.std.specs.Prelude.{ℕ, ◌≡◌, true, List, ◌∷◌, ◌++◌, map, eqb, length, get_or}
+use Rattle.std.specs.Prelude.{ℕ, ◌≡◌, true, List, ◌∷◌, ◌++◌, map, eqb, length}
 use Rattle.octets.specs.Label.{row_of}
 use Rattle.octets.specs.Numbers.{completed}
 use Rattle.octets.proofs.Laws.{Bytes}
 use Rattle.arrays.specs.{Arrays.some, Every.Every, Every.EveryTwo}
-use Rattle.client.specs.Records.{blank_record}
 use Rattle.sequence.specs.Sequence.{steps_of}
 use Rattle.sequence.specs.declared.Sequence.{Sequence}
 use Rattle.store.specs.Blocks.{client_blocks, step_blocks}
-use Rattle.store.specs.Stored.{client_bytes, step_bytes, slots_in, head_of, groups, sealed_from, stored_of}
+use Rattle.store.specs.Stored.{clients_at, step_bytes, slots_in, head_of, groups, sealed_from, stored_of}
 use Rattle.store.specs.Loaded.{client_count, client_slot, loaded_of}
 use Rattle.store.specs.Legal.{Legal, Fits}
 
@@ -19,7 +18,7 @@ slots_read s k = row_of k (client_slot s)
 
 -- the client records of a sequence, in this order of slots
 abbrev pub clients_by : List ℕ → Sequence → List (List ℕ)
-clients_by slots q = map (λ slot. client_bytes slot (get_or q.records slot blank_record)) slots
+clients_by slots q = clients_at slots q.records
 
 -- its blocks, with them in this order
 unfoldable pub stored_by : List ℕ → Sequence → List ℕ

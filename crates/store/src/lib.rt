@@ -1,13 +1,12 @@
 // A sequence as blocks of 512 bytes, each with its own check: where they hold what, and what the check is. The layout stands in specs/Blocks.antt.
 #![tactic(auto)]
 
-ghost use Rattle.std.specs.Prelude.{◌≡◌, ◌+◌, ◌≤◌, ◌<◌, ◌^◌};
+ghost use Rattle.std.specs.Prelude.{◌≡◌, ◌≤◌, ◌<◌, ◌^◌, IfSome, is_some};
 ghost use Rattle.store.specs.Blocks.{sum_at, check_at, client_blocks, step_blocks, blocks_for, used_bytes, client_place, step_place};
+ghost use Rattle.store.specs.Loaded.{counts_right};
 ghost use Rattle.store.specs.Promises.{Promises};
 
-use arrays::at_most;
 use octets::u32_at;
-use sequence::Sequence;
 
 pub mod loading;
 pub mod storing;
@@ -17,90 +16,101 @@ pub const BLOCK_BYTES: usize = 512;
 // All of a block but its check.
 pub const CONTENT_BYTES: usize = 508;
 
-// What blocks say: number is 0, 16 or 17, and the sequence is blank where it is not 0.
-#[repr(C)]
+// How many client records and steps blocks have.
 #[derive(Clone, Copy)]
-pub struct Loaded {
-    pub number: u8,
-    pub sequence: Sequence,
+pub(crate) struct Counts {
+    pub(crate) clients: usize,
+    pub(crate) steps: usize,
+    ghost few_clients: { clients ≤ 8 },
+    ghost few_steps: { steps ≤ 64 },
 }
 
-// The first 127 words of the block at a place, together.
-fn sum_at(s: &[u8], at: usize) -> u64
-    requires { at + 512 ≤ 2 ^ 32 }
-    ensures value { result ≡ sum_at s.now at 127 }
+impl Counts {
+    // 1 to 8 clients and 1 to 64 steps, as blocks may say.
+    pub(crate) fn new(clients: u32, steps: u32) -> Option<Counts>
+        ensures right { is_some result ≡ counts_right clients steps }
+        ensures value { IfSome result (λ counts. (counts.clients ≡ clients) × (counts.steps ≡ steps)) }
+    {
+        if !((1 <= clients) & (clients <= 8) & (1 <= steps) & (steps <= 64)) {
+            return None;
+        }
+        Some(Counts {
+            clients: clients as usize,
+            steps: steps as usize,
+        })
+    }
+
+    pub(crate) fn client_blocks(self) -> usize
+        ensures { result ≡ client_blocks self.clients }
+    {
+        (self.clients + 2) / 3
+    }
+
+    fn step_blocks(self) -> usize
+        ensures { result ≡ step_blocks self.steps }
+    {
+        (self.steps + 30) / 31
+    }
+
+    pub(crate) fn blocks(self) -> usize
+        ensures { result ≡ blocks_for self.clients self.steps }
+    {
+        1 + self.client_blocks() + self.step_blocks()
+    }
+
+    // How much of block b, counted from 0, is not fill.
+    #[tactic(auto, unfolding(crate::specs::Blocks::used_bytes, octets::specs::Pick::pick))]
+    pub(crate) fn used_bytes(self, b: usize) -> usize
+        requires { b < blocks_for self.clients self.steps }
+        ensures { result ≡ used_bytes self.clients self.steps b }
+    {
+        if b == 0 {
+            return 12;
+        }
+        let clients = self.client_blocks();
+        if b <= clients {
+            return 148 * (self.clients - 3 * (b - 1)).min(3);
+        }
+        16 * (self.steps - 31 * (b - 1 - clients)).min(31)
+    }
+
+    // Where client record k stands, counted from 0.
+    pub(crate) fn client_place(self, k: usize) -> usize
+        requires { k < self.clients }
+        ensures { result ≡ client_place k }
+    {
+        512 + 512 * (k / 3) + 148 * (k % 3)
+    }
+
+    // Where step k stands, counted from 0.
+    pub(crate) fn step_place(self, k: usize) -> usize
+        requires { k < self.steps }
+        ensures { result ≡ step_place self.clients k }
+    {
+        512 * (1 + self.client_blocks()) + 512 * (k / 31) + 16 * (k % 31)
+    }
+}
+
+// The first 127 words of a block, together.
+#[tactic(auto, using(crate::proofs::Checks::sum_none, crate::proofs::Checks::sum_more))]
+fn sum_of(block: &[u8]) -> u64
+    ensures value { result ≡ sum_at block.now 0 127 }
     ensures bounded { result < 2 ^ 40 }
 {
-    let mut sum: u64 = 0;
-    let mut k: usize = 0;
-    while k < 127 {
-        sum += u32_at(s, at + 4 * k) as u64;
-        k += 1;
+    let mut sum = 0;
+    for k in 0..127 {
+        sum += u64::from(u32_at(block, 4 * k));
     }
     sum
 }
 
-// The check of the block at a place, by its number from 1.
-pub(crate) fn check_at(s: &[u8], at: usize, number: usize) -> u32
-    requires { (at + 512 ≤ 2 ^ 32) × (number ≤ 2 ^ 60) }
-    ensures { result ≡ check_at s.now at number }
+// The check of a block, by its number from 1.
+#[tactic(auto, unfolding(crate::specs::Blocks::check_at))]
+pub(crate) fn check_of(block: &[u8], number: usize) -> u32
+    requires { number ≤ 2 ^ 60 }
+    ensures { result ≡ check_at block.now 0 number }
 {
-    ((sum_at(s, at) + number as u64) % 4294967296) as u32
-}
-
-pub(crate) fn client_blocks(c: usize) -> usize
-    requires { c ≤ 8 }
-    ensures { result ≡ client_blocks c }
-{
-    (c + 2) / 3
-}
-
-pub(crate) fn step_blocks(n: usize) -> usize
-    requires { n ≤ 64 }
-    ensures { result ≡ step_blocks n }
-{
-    (n + 30) / 31
-}
-
-// How many blocks c clients and n steps have.
-pub(crate) fn blocks_for(c: usize, n: usize) -> usize
-    requires { (c ≤ 8) × (n ≤ 64) }
-    ensures { result ≡ blocks_for c n }
-{
-    1 + client_blocks(c) + step_blocks(n)
-}
-
-// How much of block b, counted from 0, is not fill.
-pub(crate) fn used_bytes(c: usize, n: usize, b: usize) -> usize
-    requires { (c ≤ 8) × (n ≤ 64) × (b < blocks_for c n) }
-    ensures { result ≡ used_bytes c n b }
-{
-    if b == 0 {
-        return 12;
-    }
-    let clients = client_blocks(c);
-    if b <= clients {
-        return 148 * at_most(c - 3 * (b - 1), 3);
-    }
-    16 * at_most(n - 31 * (b - 1 - clients), 31)
-}
-
-// Where client record k stands, counted from 0.
-pub(crate) fn client_place(k: usize) -> usize
-    requires { k < 8 }
-    ensures value { result ≡ client_place k }
-    ensures bounded { result ≤ 4096 }
-{
-    512 + 512 * (k / 3) + 148 * (k % 3)
-}
-
-// Where step k of c clients stands, counted from 0.
-pub(crate) fn step_place(c: usize, k: usize) -> usize
-    requires { (c ≤ 8) × (k < 64) }
-    ensures value { result ≡ step_place c k }
-    ensures bounded { result ≤ 4096 }
-{
-    512 * (1 + client_blocks(c)) + 512 * (k / 31) + 16 * (k % 31)
+    ((sum_of(block) + number as u64) % 4294967296) as u32
 }
 
 // What holds of the definitions that the contracts above cite.

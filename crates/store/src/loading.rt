@@ -1,45 +1,36 @@
 // Loading: lent bytes are judged, and give a sequence where nothing is wrong with them.
-ghost use Rattle.std.specs.Prelude.{◌≡◌, true, false, ◌&&◌, ℕ, ◌+◌, ◌*◌, ◌≤◌, ◌<◌, ◌^◌, eqb, length};
-ghost use Rattle.octets.specs.Bits.{has_bit};
+ghost use Rattle.std.specs.Prelude.{◌≡◌, not, ℕ, ◌+◌, ◌*◌, ◌≤◌, ◌<◌, ◌^◌, eqb, length, drop};
+ghost use Rattle.std.specs.Bool.{then_some};
 ghost use Rattle.pool.specs.StageTwo.{character_right};
-ghost use Rattle.arrays.specs.Arrays.{pad_to};
-ghost use Rattle.sequence.specs.Sequence.{blank_sequence, blank_step};
-ghost use Rattle.sequence.specs.Editions.{is_edition};
-ghost use Rattle.store.specs.Below.{every_below, some_below};
-ghost use Rattle.store.specs.Blocks.{is_intact, is_damaged, blocks_for, step_place};
+ghost use Rattle.arrays.specs.Arrays.{some, pad_to};
+ghost use Rattle.sequence.specs.Sequence.{blank_step};
+ghost use Rattle.sequence.specs.Sound.{is_of};
+ghost use Rattle.store.specs.Below.{every_below};
+ghost use Rattle.store.specs.Blocks.{block_at, is_intact, is_damaged, blocks_for, client_place, step_place};
 ghost use Rattle.store.specs.Fields.{most_mark, step_right};
-ghost use Rattle.store.specs.Loaded.{byte_at, is_blank, client_at, client_right, client_blank, step_at, client_count, step_count, edition_in, client_slot, step_slot, records_to, steps_to, counts_right, rest_blank, are_clients_right, loaded_of};
-ghost use Rattle.store.specs.Taken.{client_taken, step_taken};
+ghost use Rattle.store.specs.Loaded.{byte_at, is_blank, client_at, client_right, client_blank, step_at, step_blank, records_to, steps_to, rest_blank, client_slot, is_faulty, sequence_in, loaded_by, loaded_of};
+ghost use Rattle.store.specs.Taken.{records_read, steps_read};
 
-use crate::{
-    BLOCK_BYTES, CONTENT_BYTES, Loaded, blocks_for, check_at, client_place, step_place, used_bytes,
-};
+use crate::{BLOCK_BYTES, CONTENT_BYTES, Counts, check_of};
 use client::{ClientRecord, SLOTS, blank_record};
 use octets::label::label_at;
-use octets::numbers::{CHECK_WRONG, DONE, NOT_STORED};
-use octets::{byte_at, has_bit, u32_at, u64_at, with_bit};
+use octets::numbers::Refusal;
+use octets::{byte_at, u32_at, u64_at};
 use pool::ranges::label_right;
 use pool::stage_two::character_right;
-use sequence::{MOST_STEPS, SECOND_EDITION, Sequence, Step, blank_sequence, blank_step};
+use sequence::{MOST_STEPS, SECOND_EDITION, Sequence, Step, blank_step};
 
 // The longest mark of a recording: in ticks, and in millimetres.
 const MOST_TICKS: u32 = 35999;
 
 const MOST_DISTANCE: u32 = 2359194465;
 
-// The client records, each in its slot, where every one of them can be taken.
+// Blocks, as many as hold so many client records and steps.
 #[derive(Clone, Copy)]
-struct Clients {
-    right: bool,
-    records: [ClientRecord; SLOTS],
-}
-
-// The steps, where every one of them can be taken; slots are the slots of which there is one, as bits.
-#[derive(Clone, Copy)]
-struct Steps {
-    right: bool,
-    slots: u64,
-    steps: [Step; MOST_STEPS],
+struct Blocks<'a> {
+    bytes: &'a [u8],
+    counts: Counts,
+    ghost whole: { length bytes.now ≡ 512 * blocks_for counts.clients counts.steps },
 }
 
 // ---- checks
@@ -48,23 +39,22 @@ fn is_intact(number: usize, block: &[u8]) -> bool
     requires { number ≤ 2 ^ 60 }
     ensures { result ≡ is_intact number block.now }
 {
-    u32_at(block, CONTENT_BYTES) == check_at(block, 0, number)
+    u32_at(block, CONTENT_BYTES) == check_of(block, number)
+}
+
+fn block_at(blocks: &[u8], b: usize) -> &[u8]
+    requires { 512 * b + 512 ≤ length blocks.now }
+    ensures { result.now ≡ block_at blocks.now b }
+{
+    &blocks[BLOCK_BYTES * b..BLOCK_BYTES * (b + 1)]
 }
 
 // 16: the check of some whole block is wrong.
+#[tactic(auto, unfolding(crate::specs::Blocks::is_damaged))]
 fn is_damaged(blocks: &[u8]) -> bool
     ensures { result ≡ is_damaged blocks.now }
 {
-    let whole = blocks.len() / BLOCK_BYTES;
-    let mut b: usize = 0;
-    while b < whole {
-        let at = BLOCK_BYTES * b;
-        if !is_intact(b + 1, &blocks[at..at + BLOCK_BYTES]) {
-            return true;
-        }
-        b += 1;
-    }
-    false
+    (0..blocks.len() / BLOCK_BYTES).any(|b| !is_intact(b + 1, block_at(blocks, b)))
 }
 
 // ---- fields and fill
@@ -73,92 +63,74 @@ fn is_damaged(blocks: &[u8]) -> bool
 fn is_blank(s: &[u8], i: usize, j: usize) -> bool
     ensures { result ≡ is_blank s.now i j }
 {
-    let mut at = i;
-    while at < j {
-        if byte_at(s, at) != 0 {
-            return false;
-        }
-        at += 1;
-    }
-    true
+    (i..j).all(|at| byte_at(s, at) == 0)
 }
 
-// The n bytes from place i on may stand in a version label.
-fn characters_right(s: &[u8], i: usize, n: u8) -> bool
-    requires { i + 256 ≤ 2 ^ 32 }
-    ensures { result ≡ every_below n (λ k. character_right (byte_at s.now (i + k))) }
+// The n bytes from place 20 on may stand in a version label.
+fn characters_right(record: &[u8], n: u8) -> bool
+    ensures { result ≡ every_below n (λ k. character_right (byte_at record.now (20 + k))) }
 {
-    let mut k: u8 = 0;
-    while k < n {
-        if !character_right(byte_at(s, i + k as usize)) {
-            return false;
-        }
-        k += 1;
-    }
-    true
+    (0..n).all(|k| character_right(byte_at(record, 20 + usize::from(k))))
 }
 
-fn client_right(s: &[u8], p: usize) -> bool
-    requires { p ≤ 4096 }
-    ensures { result ≡ client_right s.now p }
+#[tactic(auto, unfolding(crate::specs::Loaded::client_right))]
+fn client_right(record: &[u8]) -> bool
+    ensures { result ≡ client_right record.now 0 }
 {
-    let n = byte_at(s, p + 1);
-    (byte_at(s, p) < 8)
-        & label_right(n)
-        & label_right(byte_at(s, p + 2))
-        & characters_right(s, p + 20, n)
+    let version = byte_at(record, 1);
+    (byte_at(record, 0) < 8)
+        & label_right(version)
+        & label_right(byte_at(record, 2))
+        & characters_right(record, version)
 }
 
-fn client_blank(s: &[u8], p: usize) -> bool
-    requires { p ≤ 4096 }
-    ensures { result ≡ client_blank s.now p }
+#[tactic(auto, unfolding(crate::specs::Loaded::client_blank))]
+fn client_blank(record: &[u8]) -> bool
+    ensures { result ≡ client_blank record.now 0 }
 {
-    let version = byte_at(s, p + 1) as usize;
-    let configuration = byte_at(s, p + 2) as usize;
-    (byte_at(s, p + 3) == 0)
-        & is_blank(s, p + 20 + version, p + 84)
-        & is_blank(s, p + 84 + configuration, p + 148)
+    let version = usize::from(byte_at(record, 1));
+    let configuration = usize::from(byte_at(record, 2));
+    (byte_at(record, 3) == 0)
+        & is_blank(record, 20 + version, 84)
+        & is_blank(record, 84 + configuration, 148)
 }
 
-fn client_at(s: &[u8], p: usize) -> ClientRecord
-    requires { p ≤ 4096 }
-    ensures { result ≡ client_at s.now p }
+#[tactic(auto, unfolding(crate::specs::Loaded::client_at))]
+fn client_at(record: &[u8]) -> ClientRecord
+    ensures { result ≡ client_at record.now 0 }
 {
-    let name = u64_at(s, p + 4);
-    let master = u64_at(s, p + 12);
-    let version = label_at(s, p + 20, byte_at(s, p + 1));
-    let configuration = label_at(s, p + 84, byte_at(s, p + 2));
     ClientRecord {
         used: 1,
-        name,
-        master,
-        version,
-        configuration,
+        name: u64_at(record, 4),
+        master: u64_at(record, 12),
+        version: label_at(record, 20, byte_at(record, 1)),
+        configuration: label_at(record, 84, byte_at(record, 2)),
     }
 }
 
-fn step_at(s: &[u8], p: usize) -> Step
-    requires { p ≤ 4096 }
-    ensures { result ≡ step_at s.now p }
+#[tactic(auto, unfolding(crate::specs::Loaded::step_at))]
+fn step_at(bytes: &[u8]) -> Step
+    ensures { result ≡ step_at bytes.now 0 }
 {
     Step {
-        slot: byte_at(s, p),
-        function: byte_at(s, p + 1),
-        state: byte_at(s, p + 2),
-        distance: byte_at(s, p + 3),
-        value: u32_at(s, p + 8),
-        mark: u32_at(s, p + 4),
+        slot: byte_at(bytes, 0),
+        function: byte_at(bytes, 1),
+        state: byte_at(bytes, 2),
+        distance: byte_at(bytes, 3),
+        value: u32_at(bytes, 8),
+        mark: u32_at(bytes, 4),
     }
 }
 
+#[tactic(auto, unfolding(octets::specs::Pick::pick))]
 fn most_mark(distance: bool) -> u32
     ensures { result ≡ most_mark distance }
 {
     if distance { MOST_DISTANCE } else { MOST_TICKS }
 }
 
-fn step_right(step: Step) -> bool
-    ensures { result ≡ step_right step }
+fn step_right(step: &Step) -> bool
+    ensures { result ≡ step_right step.now }
 {
     (step.slot < 8)
         & (step.state < 64)
@@ -166,175 +138,136 @@ fn step_right(step: Step) -> bool
         & (step.mark <= most_mark(step.distance != 0))
 }
 
+fn has_step(steps: &[Step], slot: u8) -> bool
+    ensures { result ≡ some (is_of slot) steps.now }
+{
+    steps.iter().any(|step| step.slot == slot)
+}
+
 // ---- all of them
 
-// The client records, up to one that has a field out of range, fill that is not zero, or the slot of one before it.
-fn clients_from(s: &[u8], c: usize) -> Clients
-    requires { c ≤ 8 }
-    ensures right_value { result.right ≡ every_below c (λ k. client_taken s.now k) }
-    ensures records { result.right ≡ true → result.records ≡ records_to s.now c }
-{
-    let none = blank_record();
-    let mut records = [none; SLOTS];
-    let mut k: usize = 0;
-    while k < c {
-        let p = client_place(k);
-        if !(client_right(s, p) & client_blank(s, p)) {
-            return Clients {
-                right: false,
-                records,
-            };
-        }
-        let slot = byte_at(s, p) as usize;
-        if records[slot].used != 0 {
-            return Clients {
-                right: false,
-                records,
-            };
-        }
-        records[slot] = client_at(s, p);
-        k += 1;
+impl<'a> Blocks<'a> {
+    // The bytes from client record k on.
+    fn client(&self, k: usize) -> &'a [u8]
+        requires { k < self.now.counts.clients }
+        ensures { result.now ≡ drop (client_place k) self.now.bytes.now }
+    {
+        &self.bytes[self.counts.client_place(k)..]
     }
-    Clients {
-        right: true,
-        records,
-    }
-}
 
-// The steps, up to one that has a field out of range, fill that is not zero, or a client without a record.
-fn steps_from(s: &[u8], c: usize, n: usize, records: [ClientRecord; SLOTS]) -> Steps
-    requires { (c ≤ 8) × (n ≤ 64) }
-    ensures right_value { result.right ≡ every_below n (λ k. step_taken s.now records (step_place c k)) }
-    ensures steps { result.right ≡ true → result.steps ≡ pad_to blank_step 64 (steps_to s.now c n) }
-    ensures slots { result.right ≡ true → (x : ℕ) → has_bit result.slots x ≡ some_below n (λ k. eqb (step_slot s.now c k) x) }
-{
-    let none = blank_step();
-    let mut steps = [none; MOST_STEPS];
-    let mut slots: u64 = 0;
-    let mut k: usize = 0;
-    while k < n {
-        let p = step_place(c, k);
-        let step = step_at(s, p);
-        if !(step_right(step) & is_blank(s, p + 12, p + 16)) {
-            return Steps {
-                right: false,
-                slots,
-                steps,
-            };
-        }
-        let slot = step.slot as usize;
-        if records[slot].used == 0 {
-            return Steps {
-                right: false,
-                slots,
-                steps,
-            };
-        }
-        slots = with_bit(slots, slot as u64);
-        steps[k] = step;
-        k += 1;
+    fn client_slot(&self, k: usize) -> u8
+        requires { k < self.now.counts.clients }
+        ensures { result ≡ client_slot self.now.bytes.now k }
+    {
+        byte_at(self.bytes, self.counts.client_place(k))
     }
-    Steps {
-        right: true,
-        slots,
-        steps,
-    }
-}
 
-// What is left of each block, up to its check, is zero.
-fn rest_blank(s: &[u8], c: usize, n: usize) -> bool
-    requires { (c ≤ 8) × (n ≤ 64) }
-    ensures { result ≡ every_below (blocks_for c n) (λ b. rest_blank s.now c n b) }
-{
-    let blocks = blocks_for(c, n);
-    let mut b: usize = 0;
-    while b < blocks {
+    // The bytes from step k on.
+    fn step(&self, k: usize) -> &'a [u8]
+        requires { k < self.now.counts.steps }
+        ensures { result.now ≡ drop (step_place self.now.counts.clients k) self.now.bytes.now }
+    {
+        &self.bytes[self.counts.step_place(k)..]
+    }
+
+    // The client records, each in its slot: none where one has a field out of range, fill that is not zero, or the slot of one before it.
+    fn records(&self) -> Option<[ClientRecord; SLOTS]>
+        ensures { result ≡ records_read self.now.bytes.now self.now.counts.clients }
+    {
+        let mut records = [blank_record(); SLOTS];
+        for k in 0..self.counts.clients {
+            let record = self.client(k);
+            if !(client_right(record) & client_blank(record)) {
+                return None;
+            }
+            let slot = usize::from(self.client_slot(k));
+            if records[slot].used != 0 {
+                return None;
+            }
+            records[slot] = client_at(record);
+        }
+        Some(records)
+    }
+
+    // The steps: none where one has a field out of range, fill that is not zero, or a client without a record.
+    fn steps(&self, records: &[ClientRecord; SLOTS]) -> Option<[Step; MOST_STEPS]>
+        ensures { result ≡ steps_read self.now.bytes.now self.now.counts.clients self.now.counts.steps records.now }
+    {
+        let mut steps = [blank_step(); MOST_STEPS];
+        for k in 0..self.counts.steps {
+            let bytes = self.step(k);
+            let step = step_at(bytes);
+            if !(step_right(&step) & is_blank(bytes, 12, 16)) {
+                return None;
+            }
+            if records[usize::from(step.slot)].used == 0 {
+                return None;
+            }
+            steps[k] = step;
+        }
+        Some(steps)
+    }
+
+    // What is left of block b, up to its check, is zero.
+    #[tactic(auto, using(crate::proofs::Contents::used_fits))]
+    fn is_rest_blank(&self, b: usize) -> bool
+        requires { b < blocks_for self.now.counts.clients self.now.counts.steps }
+        ensures { result ≡ rest_blank self.now.bytes.now self.now.counts.clients self.now.counts.steps b }
+    {
         let at = BLOCK_BYTES * b;
-        if !is_blank(s, at + used_bytes(c, n, b), at + CONTENT_BYTES) {
-            return false;
-        }
-        b += 1;
+        is_blank(
+            self.bytes,
+            at + self.counts.used_bytes(b),
+            at + CONTENT_BYTES,
+        )
     }
-    true
-}
 
-// Of the client in each record there is a step; slots are those of which there is one, as bits.
-fn has_each_step(s: &[u8], c: usize, slots: u64) -> bool
-    requires { (c ≤ 8) × (are_clients_right s.now c 0 ≡ true) }
-    ensures { result ≡ every_below c (λ j. has_bit slots (client_slot s.now j)) }
-{
-    let mut j: usize = 0;
-    while j < c {
-        let slot = byte_at(s, client_place(j)) as u64;
-        if !has_bit(slots, slot) {
-            return false;
-        }
-        j += 1;
+    // What is left of each block is zero.
+    fn rest_blank(&self) -> bool
+        ensures { result ≡ every_below (blocks_for self.now.counts.clients self.now.counts.steps) (rest_blank self.now.bytes.now self.now.counts.clients self.now.counts.steps) }
+    {
+        (0..self.counts.blocks()).all(|b| self.is_rest_blank(b))
     }
-    true
+
+    // Of the client in each record there is a step.
+    fn has_each_step(&self, steps: &[Step]) -> bool
+        ensures { result ≡ every_below self.now.counts.clients (λ k. some (is_of (client_slot self.now.bytes.now k)) steps.now) }
+    {
+        (0..self.counts.clients).all(|k| has_step(steps, self.client_slot(k)))
+    }
 }
 
 // ---- the whole
 
-fn refused(number: u8) -> Loaded
-    ensures { (result.number ≡ number) × (result.sequence ≡ blank_sequence) }
+// 17, where it is none.
+fn judged(bytes: &[u8]) -> Option<Sequence>
+    ensures { result ≡ then_some (not (is_faulty bytes.now)) (sequence_in bytes.now) }
 {
-    let sequence = blank_sequence();
-    Loaded { number, sequence }
-}
-
-// 1 to 8 clients and 1 to 64 steps, and exactly their blocks.
-fn shape_right(len: usize, c: u32, n: u32) -> bool
-    ensures { result ≡ (counts_right c n && eqb len (512 * blocks_for c n)) }
-{
-    if !((1 <= c) & (c <= 8) & (1 <= n) & (n <= 64)) {
-        return false;
+    let counts = Counts::new(u32_at(bytes, 0), u32_at(bytes, 4))?;
+    let less = u32_at(bytes, 8);
+    if !((bytes.len() == BLOCK_BYTES * counts.blocks()) & (less < SECOND_EDITION)) {
+        return None;
     }
-    len == BLOCK_BYTES * blocks_for(c as usize, n as usize)
-}
-
-// Blocks of so many clients and steps, of this edition, of which no check is wrong.
-fn judged(s: &[u8], c: usize, n: usize, edition: u32) -> Loaded
-    requires { (c ≡ client_count s.now) × (n ≡ step_count s.now) × (edition ≡ edition_in s.now) × (counts_right c n ≡ true) × (is_edition edition ≡ true) × (length s.now ≡ 512 * blocks_for c n) × (is_damaged s.now ≡ false) }
-    ensures { result ≡ loaded_of s.now }
-{
-    let clients = clients_from(s, c);
-    if !clients.right {
-        return refused(NOT_STORED);
+    let blocks = Blocks { bytes, counts };
+    let records = blocks.records()?;
+    let steps = blocks.steps(&records)?;
+    if !(blocks.rest_blank() & blocks.has_each_step(&steps[..counts.steps])) {
+        return None;
     }
-    let records = clients.records;
-    let taken = steps_from(s, c, n, records);
-    if !taken.right {
-        return refused(NOT_STORED);
-    }
-    if !(rest_blank(s, c, n) & has_each_step(s, c, taken.slots)) {
-        return refused(NOT_STORED);
-    }
-    let steps = taken.steps;
-    let sequence = Sequence {
-        count: n,
-        edition,
+    Some(Sequence {
+        count: counts.steps,
+        edition: less + 1,
         steps,
         records,
-    };
-    Loaded {
-        number: DONE,
-        sequence,
-    }
+    })
 }
 
-// Any lent bytes: 16, 17, or 0 and the sequence that they say.
-pub fn load(blocks: &[u8]) -> Loaded
-    ensures { result ≡ loaded_of blocks.now }
+// Any lent bytes: 16, 17, or the sequence that they say.
+pub fn load(blocks: &[u8]) -> Result<Sequence, Refusal>
+    ensures { loaded_by result ≡ loaded_of blocks.now }
 {
     if is_damaged(blocks) {
-        return refused(CHECK_WRONG);
+        return Err(Refusal::CheckWrong);
     }
-    let c = u32_at(blocks, 0);
-    let n = u32_at(blocks, 4);
-    let less = u32_at(blocks, 8);
-    if !(shape_right(blocks.len(), c, n) & (less < SECOND_EDITION)) {
-        return refused(NOT_STORED);
-    }
-    judged(blocks, c as usize, n as usize, less + 1)
+    judged(blocks).ok_or(Refusal::NotStored)
 }

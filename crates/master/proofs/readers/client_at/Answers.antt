@@ -1,13 +1,15 @@
--- `master::readers::client_at` meets its contract: by its test.
-use borrow.Author.Tests.{le-leb, lt-leb}
-use Rattle.octets.specs.Pick.{pick}
+-- `master::readers::client_at` meets its contract: what is found, as its view.
+use Rattle.std.proofs.Common.{arith, get_or}
+use Rattle.std.proofs.lemmas.List.{get_or_default}
+use Rattle.client.specs.Records.{blank_record, no_record}
 use Rattle.master.specs.Readers.{client_view}
+use Rattle.master.proofs.Views.{viewed}
 use Rattle.master.proofs.readers.client_at.Goals as goal
 
-pub returns-then-slot-ge8 : goal.returns-then-slot-ge8
-unfolding pick client_view
-returns-then-slot-ge8 c = rw (c.blank_record-none.ensures, le-leb _ _ c.if-slot-ge8.true)
-
 pub returns : goal.returns
-unfolding pick client_view
-returns c = rw (lt-leb _ _ c.if-slot-ge8.false)
+unfolding client_view
+returns c =
+    let i = c.args.slot in
+    let all = c.args.sequence.now.records in
+    viewed (λ number x. record { number = number; client = x }) all 8 i blank_record (get_or all i no_record)
+    (omega arith) c.blank_record.ensures c.found-number.ensures.number c.found-number.ensures.item (λ l. get_or_default all i blank_record no_record (omega arith))

@@ -1,17 +1,16 @@
--- `recording::Recording::heard` meets its contract: a number below 64 is a step that is held.
-use borrow.Author.Tests.{lt-ltb, le-ltb}
-use Rattle.octets.specs.Pick.{pick}
-use Rattle.recording.specs.Indication.{heard_of}
+-- `recording::Recording::heard` meets its contract: a step that is found, or none.
+use mathlib.Core.Path.{sym, ◌∙◌}
+use Rattle.recording.proofs.Places.{found, not_found}
 use Rattle.recording.proofs.Recording.heard.Goals as goal
 
-pub returns-then-i-lt-MOST_STEPS : goal.returns-then-i-lt-MOST_STEPS
-unfolding pick heard_of
-returns-then-i-lt-MOST_STEPS c = rw (← c.find-i.ensures, lt-ltb _ _ c.if-i-lt-MOST_STEPS.true) c.again.ensures
+pub returns-in-Some : goal.returns-in-Some
+returns-in-Some c =
+    let a = c.args in
+    let e = found a.self.now a.slot a.client.now a.complete a.e _ (sym c.find.ensures.value ∙ c.in-Some.is) c.in-Some.ensures.within in
+    record { value = rw e c.again.ensures.value; after = rw e c.again.ensures.after }
 
-pub returns : goal.returns
-unfolding pick heard_of
-returns c =
-    rw (
-      ← c.find-i.ensures,
-      le-ltb _ _ c.if-i-lt-MOST_STEPS.false,
-    ) c.first.ensures
+pub returns-in-None : goal.returns-in-None
+returns-in-None c =
+    let a = c.args in
+    let e = not_found a.self.now a.slot a.client.now a.complete a.e (sym c.find.ensures.value ∙ c.in-None.is) in
+    record { value = rw e c.first.ensures.value; after = rw e c.first.ensures.after }

@@ -1,70 +1,49 @@
--- `store::loading::judged` meets its contract: what a loop found is a reason for 17, or none of them found anything.
-use mathlib.Core.Path.{refl}
-use borrow.Author.Tests.{not-false}
-use Rattle.octets.proofs.Tests.{denied, granted}
-use Rattle.store.proofs.Fields.{counts}
-use Rattle.store.proofs.Reasons.{wrong_client, fields_right, wrong_step, Taken, wrong_rest, accepted}
+-- `store::loading::judged` meets its contract: what a test or a loop found is a reason for 17, or none of them found anything.
+use Rattle.std.proofs.Common.{◌≡◌, ℕ, true, List, sym, ◌∙◌}
+use Rattle.octets.specs.Octets.{number_at}
+use Rattle.store.specs.Loaded.{counts_right}
+use Rattle.store.proofs.Reasons.{less_in, refused, counts_wrong, shape_wrong, head_right, wrong_client, wrong_step, wrong_rest, accepted}
 use Rattle.store.proofs.loading.judged.Goals as goal
 
-pub clients_from-clients-requires : goal.clients_from-clients-requires
-clients_from-clients-requires c = (counts c.args.c c.args.n c.requires.3).0
+-- as it is read
+read : (s : List ℕ) (less : ℕ) → less ≡ number_at 4 s 8 → less ≡ less_in s
+read s less e = e
 
-pub returns-then-not-clients : goal.returns-then-not-clients
-returns-then-not-clients c =
-    let a = c.args in
-    wrong_client a.s.now a.c a.n a.edition c.requires c.refused.result (denied _ _ c.clients_from-clients.ensures.right_value c.if-not-clients.true) c.refused.ensures
+-- the counts that are taken
+right : (a b c n : ℕ) → true ≡ counts_right a b → (c ≡ a) × (n ≡ b) → counts_right c n ≡ true
+right a b c n e f = rw (f.0, f.1) (sym e)
 
-pub steps_from-taken-requires : goal.steps_from-taken-requires
-steps_from-taken-requires c = counts _ _ c.requires.3
+pub returns-in_err-counts : goal.returns-in_err-counts
+returns-in_err-counts c =
+    c.from_residual.ensures ∙ refused c.args.bytes.now (counts_wrong _ c.u32_at.ensures c.u32_at-2.ensures (sym c.in_err-counts.ensures.right))
 
-pub returns-then-not-taken : goal.returns-then-not-taken
-returns-then-not-taken c =
-    let a = c.args in
-    let f = c.clients_from-clients.ensures in
-    let t = granted _ _ f.right_value c.if-not-clients.false in
-    let e = f.records (not-false _ c.if-not-clients.false) in
-    wrong_step a.s.now a.c a.n a.edition c.requires t _ e c.refused-then-not-taken.result (denied _ _ c.steps_from-taken.ensures.right_value c.if-not-taken.true)
-    c.refused-then-not-taken.ensures
+pub returns-then-not-bytes-blocks : goal.returns-then-not-bytes-blocks
+returns-then-not-bytes-blocks c =
+    let k = c.in_ok-counts.ensures in
+    refused c.args.bytes.now
+    (shape_wrong _ (k.value.0 ∙ c.u32_at.ensures) (k.value.1 ∙ c.u32_at-2.ensures) (right _ _ _ _ k.right k.value) (read _ _ c.u32_at-less.ensures) c.blocks-2.ensures c.if-not-bytes-blocks.true)
 
-pub rest_blank-requires : goal.rest_blank-requires
-rest_blank-requires c = counts _ _ c.requires.3
+pub returns-in_err-records : goal.returns-in_err-records
+returns-in_err-records c =
+    let k = c.in_ok-counts.ensures in
+    let head = head_right c.args.bytes.now (k.value.0 ∙ c.u32_at.ensures) (k.value.1 ∙ c.u32_at-2.ensures) (right _ _ _ _ k.right k.value) (read _ _ c.u32_at-less.ensures) c.blocks-2.ensures c.if-not-bytes-blocks.false in
+    c.from_residual-in_err-records.ensures ∙ refused c.args.bytes.now (wrong_client head (sym c.in_err-records.ensures))
 
-pub has_each_step-requires : goal.has_each_step-requires
-has_each_step-requires c =
-    let a = c.args in
-    let t = granted _ _ c.clients_from-clients.ensures.right_value c.if-not-clients.false in
-    ((counts a.c a.n c.requires.3).0, fields_right a.s.now a.c a.n a.edition c.requires t)
+pub returns-in_err-steps : goal.returns-in_err-steps
+returns-in_err-steps c =
+    let k = c.in_ok-counts.ensures in
+    let head = head_right c.args.bytes.now (k.value.0 ∙ c.u32_at.ensures) (k.value.1 ∙ c.u32_at-2.ensures) (right _ _ _ _ k.right k.value) (read _ _ c.u32_at-less.ensures) c.blocks-2.ensures c.if-not-bytes-blocks.false in
+    c.from_residual-in_err-steps.ensures ∙ refused c.args.bytes.now (wrong_step head _ (sym c.in_ok-records.ensures) (sym c.in_err-steps.ensures))
 
 pub returns-then-not-rest_blank-has_each_step : goal.returns-then-not-rest_blank-has_each_step
 returns-then-not-rest_blank-has_each_step c =
-    let a = c.args in
-    let f = c.clients_from-clients in
-    let g = c.steps_from-taken in
-    let k : Taken a.s.now a.c a.n a.edition f.result.records g.result.slots c.rest_blank.result c.has_each_step.result =
-    record {
-      whole = c.requires;
-      clients = granted _ _ f.ensures.right_value c.if-not-clients.false;
-      same = f.ensures.records (not-false _ c.if-not-clients.false);
-      steps = granted _ _ g.ensures.right_value c.if-not-taken.false;
-      has = g.ensures.slots (not-false _ c.if-not-taken.false);
-      rest = c.rest_blank.ensures;
-      each = c.has_each_step.ensures;
-    } in
-    wrong_rest k c.refused-then-not-rest_blank-has_each_step.result c.if-not-rest_blank-has_each_step.true c.refused-then-not-rest_blank-has_each_step.ensures
+    let k = c.in_ok-counts.ensures in
+    let head = head_right c.args.bytes.now (k.value.0 ∙ c.u32_at.ensures) (k.value.1 ∙ c.u32_at-2.ensures) (right _ _ _ _ k.right k.value) (read _ _ c.u32_at-less.ensures) c.blocks-2.ensures c.if-not-bytes-blocks.false in
+    refused c.args.bytes.now
+    (wrong_rest head _ (sym c.in_ok-records.ensures) _ (sym c.in_ok-steps.ensures) _ _ c.rest_blank.ensures c.has_each_step.ensures c.if-not-rest_blank-has_each_step.true)
 
 pub returns : goal.returns
 returns c =
-    let a = c.args in
-    let f = c.clients_from-clients in
-    let g = c.steps_from-taken in
-    let k : Taken a.s.now a.c a.n a.edition f.result.records g.result.slots c.rest_blank.result c.has_each_step.result =
-    record {
-      whole = c.requires;
-      clients = granted _ _ f.ensures.right_value c.if-not-clients.false;
-      same = f.ensures.records (not-false _ c.if-not-clients.false);
-      steps = granted _ _ g.ensures.right_value c.if-not-taken.false;
-      has = g.ensures.slots (not-false _ c.if-not-taken.false);
-      rest = c.rest_blank.ensures;
-      each = c.has_each_step.ensures;
-    } in
-    accepted k c.if-not-rest_blank-has_each_step.false _ refl refl (g.ensures.steps (not-false _ c.if-not-taken.false)) refl
+    let k = c.in_ok-counts.ensures in
+    let head = head_right c.args.bytes.now (k.value.0 ∙ c.u32_at.ensures) (k.value.1 ∙ c.u32_at-2.ensures) (right _ _ _ _ k.right k.value) (read _ _ c.u32_at-less.ensures) c.blocks-2.ensures c.if-not-bytes-blocks.false in
+    accepted head _ (sym c.in_ok-records.ensures) _ (sym c.in_ok-steps.ensures) _ _ c.rest_blank.ensures c.has_each_step.ensures c.if-not-rest_blank-has_each_step.false

@@ -1,60 +1,40 @@
 -- `store::storing::put_clients` meets its contract.
-use Prim.Native.Nat.{ℕ, ◌+◌, ◌*◌, ◌≤◌, ◌<◌}
-use native.Mathlib.Omega.{arith}
-use mathlib.Core.Path.{◌≡◌, refl, sym, ap, ◌∙◌}
-use mathlib.Core.List.{List}
-use lib.ListN.{length, take, drop}
-use lib.Seq.{length-sets, take_all}
-use borrow.Author.Rules.{rules}
-use Rattle.store.specs.Stored.{slots_in, clients_in, joined}
-use Rattle.store.proofs.Lists.{part_length}
-use Rattle.store.proofs.Groups.{item_start, item_next, item_more, item_end}
-use Rattle.store.proofs.Slots.{slots_few, slot_in, client_at_lem}
+use Rattle.std.proofs.Common.{◌≡◌, ℕ, ◌*◌, ◌<◌, ◌≤◌, List, [], length, get_or, refl, sym, ap, ◌∙◌, arith}
+use Rattle.std.proofs.lemmas.List.{get_or-map, length-map, take_all}
+use Rattle.arrays.proofs.Every.{every_at}
+use Rattle.arrays.proofs.Pad.{any_default}
+use Rattle.client.specs.Records.{blank_record}
+use Rattle.store.specs.Stored.{client_bytes, clients_at, joined}
+use Rattle.store.proofs.Groups.{item_put, item_more, item_end}
 use Rattle.store.proofs.storing.put_clients.Goals as goal
-
-pub loop-j-init : goal.loop-j-init
-loop-j-init c =
-    let a = c.args in
-    (item_start 148 (take a.n (drop a.k (clients_in a.records))) a.i 0 a.out.now, refl, search rules)
-
-pub overflow_add-slot : goal.overflow_add-slot
-overflow_add-slot c = let few = slots_few c.args.records in search rules
-
-pub bounds-slots-k : goal.bounds-slots-k
-bounds-slots-k c = omega (arith, slots_few c.args.records)
-
--- the slot that is looked at is one of the eight
-pub bounds-records-slot : goal.bounds-records-slot
-bounds-records-slot c =
-    slot_in c.args.records c.args.used.slots c.requires.3 (c.args.k + c.loop-j.j) (omega arith)
-
-pub offset_bounds-records-slot : goal.offset_bounds-records-slot
-offset_bounds-records-slot c = let h = bounds-records-slot c in search rules
 
 pub loop-j-preserved : goal.loop-j-preserved
 loop-j-preserved c =
     let l = c.loop-j in
     let a = c.args in
-    let long : length a.records ≡ 8 = search rules in
-    let fits : a.k + a.n ≤ length (slots_in a.records) = c.requires.2 in
-    let h : l.j < a.n = omega arith in
-    let items = take a.n (drop a.k (clients_in a.records)) in
-    let less : l.j < length items = rw (part_length _ (slots_in a.records) a.n a.k fits) h in
-    let here = client_at_lem a.records a.used.slots c.requires.3 a.n a.k l.j _ fits h long in
-    let bytes = c.put_client.ensures.bytes in (
-      rw c.put_client.ensures.out_after (l.invariant.0 ∙ item_next 148 items a.i l.j l.out _ less here bytes),
-      item_more 148 items a.i l.j l.out _ less here bytes l.invariant.1,
-      omega arith,
+    let slots = a.slots.now in
+    let records = a.records.now in
+    let items = clients_at slots records in
+    let small : get_or slots l.j 0 < 8 = every_at (λ x. x < 8) slots l.j 0 (omega arith) c.requires.within in
+    let less : l.j < length items = omega (arith, length-map slots (λ (slot : ℕ). client_bytes slot (get_or records slot blank_record))) in
+    let here =
+    get_or-map (λ (slot : ℕ). client_bytes slot (get_or records slot blank_record)) slots l.j 0 [] (omega arith)
+    ∙ ap (client_bytes (get_or slots l.j 0)) (any_default records (get_or slots l.j 0) blank_record _ (omega arith) ∙ ap (λ (k : ℕ). get_or records k _) (sym c.from.ensures)) in
+    let k = c.put_client.ensures in (
+      item_put 148 items l.j _ _ l.block _ _ less here k.width refl (omega arith) l.invariant.0 k.stored,
+      item_more 148 items l.j l.block _ less here k.width l.invariant.1,
     )
 
-pub returns : goal.returns
-returns c =
+pub returns-clause-stored : goal.returns-clause-stored
+returns-clause-stored c =
     let l = c.loop-j in
-    let a = c.args in
-    let items = take a.n (drop a.k (clients_in a.records)) in
-    let long : length items ≡ a.n = part_length _ (slots_in a.records) a.n a.k c.requires.2 in
-    let e : l.j ≡ a.n = omega arith in
-    record { out_after = sym (l.invariant.0 ∙ item_end 148 items a.i l.j l.out (omega arith)); bytes = sym (ap (λ (k : List (List ℕ)). length (joined k)) (take_all l.j items (omega arith))) ∙ l.invariant.1 ∙ ap (λ (k : ℕ). 148 * k) e }
+    let items = clients_at c.args.slots.now c.args.records.now in
+    sym (l.invariant.0 ∙ item_end 148 items l.j l.block (omega (arith, length-map c.args.slots.now (λ (slot : ℕ). client_bytes slot (get_or c.args.records.now slot blank_record)))))
 
-pub shape_of-out : goal.shape_of-out
-shape_of-out c = ap length (returns c).out_after ∙ simp length-sets
+pub returns-clause-width : goal.returns-clause-width
+returns-clause-width c =
+    let l = c.loop-j in
+    let items = clients_at c.args.slots.now c.args.records.now in
+    let long : length items ≤ l.j = omega (arith, length-map c.args.slots.now (λ (slot : ℕ). client_bytes slot (get_or c.args.records.now slot blank_record))) in
+    let e : l.j ≡ length c.args.slots.now = omega arith in
+    sym (ap (λ (k : List (List ℕ)). length (joined k)) (take_all l.j items long)) ∙ l.invariant.1 ∙ ap (λ (k : ℕ). 148 * k) e

@@ -5,4 +5,4 @@ use Rattle.store.proofs.storing.put_step.Goals as goal
 pub returns : goal.returns
 returns c =
     let a = c.args in
-    rw (c.put_four-2.ensures, c.put_u32-2.ensures, c.put_u32.ensures, c.put_four.ensures) (step_stored a.s a.out.now a.i)
+    rw (c.put_bytes-2.ensures, c.put_u32-2.ensures, c.put_u32.ensures, c.put_bytes.ensures) (step_stored a.step.now a.bytes.now)

@@ -1,119 +1,73 @@
 -- `store::storing::store` meets its contract.
-use Prim.Native.Nat.{ℕ, ◌+◌, ◌*◌, ◌≤◌, ◌<◌}
-use native.Mathlib.Omega.{arith}
-use mathlib.Core.Path.{◌≡◌, refl, sym, ap, ◌∙◌}
-use mathlib.Core.List.{List, []}
-use lib.ListN.{length, get_or}
-use lib.Seq.{sets, length-sets, take_all}
-use borrow.Author.Rules.{rules}
-use Rattle.arrays.proofs.Pad.{length_mapped}
+use Rattle.std.proofs.Common.{◌≡◌, ℕ, ◌+◌, ◌-◌, ◌*◌, ◌<◌, ◌≤◌, List, [], length, get_or, take, drop, ap, ◌∙◌, arith, rules}
+use Rattle.std.proofs.lemmas.List.{length-take, length-drop, take_all}
+use Rattle.std.proofs.lemmas.List.Edits.{sets}
+use Rattle.std.proofs.Math.Seq.{length-sets}
+use borrow.Rule.Slice.PartMut.{put_mid}
 use Rattle.sequence.specs.Sequence.{length_of}
 use Rattle.sequence.specs.declared.Sequence.{Sequence}
 use Rattle.store.specs.Blocks.{blocks_for}
-use Rattle.store.specs.Stored.{slots_in, contents_of, sealed_from, stored_of, stored_in, store_bytes}
+use Rattle.store.specs.Stored.{slots_in, contents_of, sealed, sealed_from, stored_of, stored_in, store_bytes}
 use Rattle.store.proofs.Slots.{slots_few}
 use Rattle.store.proofs.Blocks.{block_stored}
 use Rattle.store.proofs.Contents.{used_fits, block_room, stores_some, contents_count}
 use Rattle.store.proofs.storing.store.Goals as goal
 
--- ---- what is known before the loop, of as many clients, steps and blocks
+-- as many blocks as there are to be, of which b is one
+blocks : (q : Sequence) (slots : List ℕ) (n m : ℕ) → slots ≡ slots_in q.records → n ≡ length_of q → m ≡ blocks_for (length slots) n → m ≡ blocks_for (length (slots_in q.records)) (length_of q)
+blocks q slots n m e f g = rw (g, e, f)
 
-few : (q : Sequence) (c : ℕ) → c ≡ length (slots_in q.records) → c ≤ 8
-few q c e = rw e (slots_few q.records)
+module _ (q : Sequence) (b : ℕ) (h : b < blocks_for (length (slots_in q.records)) (length_of q)) where
+  within : length_of q ≤ 64 → 512 * b + 512 ≤ 4096
+  within most = block_room (length (slots_in q.records)) (length_of q) b h (slots_few q.records) most
 
-module _ (q : Sequence) (c n m : ℕ) (e : c ≡ length (slots_in q.records)) (f : n ≡ length_of q) (g : m ≡ blocks_for c n) where
-  blocks : m ≡ blocks_for (length (slots_in q.records)) (length_of q)
-  blocks = rw (g, e, f)
+  room : (n : ℕ) → 1 ≤ length_of q → store_bytes q ≤ n → 512 * b + 512 ≤ n
+  room n some enough = let k = stores_some q (λ z. omega (arith, some)) in omega arith
 
-  all : length q.steps ≡ 64 → length (contents_of q) ≡ m
-  all long = contents_count q long ∙ sym blocks
-
-  -- block b is one of them
-  module _ (b : ℕ) (h : b < m) where
-    within : n ≤ 64 → 512 * b + 512 ≤ 4096
-    within most = block_room c n b (rw (← g) h) (few q c e) most
-
-    room : (out : List ℕ) → 1 ≤ length_of q → store_bytes q ≤ length out → 512 * b + 512 ≤ length out
-    room out some enough =
-        let k : 512 * m ≡ store_bytes q = ap (λ (k : ℕ). 512 * k) blocks ∙ stores_some q (λ z. omega (arith, some)) in
-        omega (arith, enough)
-
-pub blocks_for-blocks-requires : goal.blocks_for-blocks-requires
-blocks_for-blocks-requires c = (few c.args.q c.used_slots-used.result.count c.used_slots-used.ensures.count_value, search rules)
-
--- ---- the loop
-
-pub loop-b-init : goal.loop-b-init
-loop-b-init c = (refl, omega arith)
-
-pub put_content-requires : goal.put_content-requires
-put_content-requires c =
-    let u = c.used_slots-used in
-    let is = blocks c.args.q u.result.count c.len-n.result c.blocks_for-blocks.result u.ensures.count_value c.len-n.ensures c.blocks_for-blocks.ensures in
-    (rw (← is) c.loop-b-test.true, u.ensures.count_value, u.ensures.slots)
-
-pub overflow_mul-b : goal.overflow_mul-b
-overflow_mul-b c =
-    let u = c.used_slots-used in
-    let most : c.len-n.result ≤ 64 = search rules in
-    let h = within c.args.q u.result.count c.len-n.result c.blocks_for-blocks.result u.ensures.count_value c.len-n.ensures c.blocks_for-blocks.ensures c.loop-b.b c.loop-b-test.true most in
-    search rules
-
-pub used_bytes-requires : goal.used_bytes-requires
-used_bytes-requires c =
-    let u = c.used_slots-used in
-    let most : c.len-n.result ≤ 64 = search rules in
-    (few c.args.q u.result.count u.ensures.count_value, most, rw (← c.blocks_for-blocks.ensures) c.loop-b-test.true)
-
-pub overflow_add-b : goal.overflow_add-b
-overflow_add-b c =
-    let u = c.used_slots-used in
-    let most : c.len-n.result ≤ 64 = search rules in
-    let h = within c.args.q u.result.count c.len-n.result c.blocks_for-blocks.result u.ensures.count_value c.len-n.ensures c.blocks_for-blocks.ensures c.loop-b.b c.loop-b-test.true most in
+pub slice_bounds-block-end : goal.slice_bounds-block-end
+slice_bounds-block-end c =
+    let q = c.args.q.now in
+    let s = c.steps.ensures in
+    let all = blocks q _ _ _ (c.slots-slots.ensures ∙ c.new-used.ensures) (ap length s.used ∙ s.as_many) c.blocks-b-end.ensures in
+    let there = rw all at c.loop-b-test.true in
+    let h : 512 * c.loop-b.b + 512 ≤ length c.args.out.now = room q c.loop-b.b there (length c.args.out.now) c.requires.0 c.requires.1 in
     search rules
 
 pub seal-requires : goal.seal-requires
 seal-requires c =
-    let a = c.args in
+    let q = c.args.q.now in
     let l = c.loop-b in
-    let u = c.used_slots-used in
-    let n = c.len-n.result in
-    let m = c.blocks_for-blocks in
-    let most : n ≤ 64 = search rules in
-    let h = within a.q u.result.count n m.result u.ensures.count_value c.len-n.ensures m.ensures l.b c.loop-b-test.true most in
-    let enough = room a.q u.result.count n m.result u.ensures.count_value c.len-n.ensures m.ensures l.b c.loop-b-test.true a.out.now c.requires.0 c.requires.1 in
-    let same : length c.put_content.new.out ≡ length a.out.now = rw (c.put_content.ensures.out_after, l.invariant.0) (simp length-sets) in
-    (h, rw same enough, rw c.used_bytes.ensures (used_fits u.result.count n l.b), omega arith)
+    let s = c.steps.ensures in
+    let all = blocks q _ _ _ (c.slots-slots.ensures ∙ c.new-used.ensures) (ap length s.used ∙ s.as_many) c.blocks-b-end.ensures in
+    let there = rw all at c.loop-b-test.true in
+    let h : 512 * l.b + 512 ≤ length c.args.out.now = room q l.b there (length c.args.out.now) c.requires.0 c.requires.1 in
+    let few : length_of q ≤ 64 = omega arith in
+    let part : length (take (512 * (l.b + 1) - 512 * l.b) (drop (512 * l.b) l.out)) ≡ 512 = simp (length-take, length-drop) (omega arith) in
+    (ap length c.put_content.ensures.stored ∙ length-sets _ 0 (get_or (contents_of q) l.b []) ∙ part, rw c.used_bytes.ensures (used_fits _ _ l.b), omega (arith, within q l.b there few))
 
 pub loop-b-preserved : goal.loop-b-preserved
 loop-b-preserved c =
-    let a = c.args in
+    let q = c.args.q.now in
     let l = c.loop-b in
-    let u = c.used_slots-used in
-    let n = c.len-n.result in
-    let m = c.blocks_for-blocks in
-    let long : length a.q.steps ≡ 64 = search (rules, length_mapped) in
-    let count = all a.q u.result.count n m.result u.ensures.count_value c.len-n.ensures m.ensures long in
-    let enough = room a.q u.result.count n m.result u.ensures.count_value c.len-n.ensures m.ensures l.b c.loop-b-test.true a.out.now c.requires.0 c.requires.1 in
-    let fits : c.used_bytes.result ≤ 508 = rw c.used_bytes.ensures (used_fits u.result.count n l.b) in
-    let bytes : length (get_or (contents_of a.q) l.b []) ≡ c.used_bytes.result =
-    c.put_content.ensures.bytes ∙ rw (c.used_bytes.ensures, u.ensures.count_value, c.len-n.ensures) in (
-      rw (c.seal.ensures, c.put_content.ensures.out_after)
-          (block_stored a.out.now (contents_of a.q) l.b (rw count c.loop-b-test.true) c.used_bytes.result l.out enough l.invariant.0 bytes fits),
-      omega (arith, c.loop-b-test.true),
-    )
+    let s = c.steps.ensures in
+    let same = c.slots-slots.ensures ∙ c.new-used.ensures in
+    let n = ap length s.used ∙ s.as_many in
+    let all = blocks q _ _ _ same n c.blocks-b-end.ensures in
+    let there = rw all at c.loop-b-test.true in
+    let h : 512 * l.b + 512 ≤ length c.args.out.now = room q l.b there (length c.args.out.now) c.requires.0 c.requires.1 in
+    let width : 512 * (l.b + 1) - 512 * l.b ≡ 512 = omega arith in
+    let part : length (take (512 * (l.b + 1) - 512 * l.b) (drop (512 * l.b) l.out)) ≡ 512 = simp (length-take, length-drop) (omega arith) in
+    let fits : c.used_bytes.result ≤ 508 = rw c.used_bytes.ensures (used_fits _ _ l.b) in
+    let used = c.put_content.ensures.width ∙ rw (c.used_bytes.ensures, same, n) in
+    ap (put_mid (512 * l.b) (512 * (l.b + 1) - 512 * l.b) l.out) (c.seal.ensures ∙ ap (λ (k : List ℕ). sealed (l.b + 1) (take c.used_bytes.result k)) c.put_content.ensures.stored)
+    ∙ block_stored c.args.out.now (contents_of q) l.b (rw (contents_count q s.as_many) there) c.used_bytes.result l.out _ h l.invariant used fits part _ width
 
 pub returns : goal.returns
 unfolding stored_in stored_of
 returns c =
-    let a = c.args in
+    let q = c.args.q.now in
     let l = c.loop-b in
-    let u = c.used_slots-used in
-    let m = c.blocks_for-blocks in
-    let long : length a.q.steps ≡ 64 = search (rules, length_mapped) in
-    let count = all a.q u.result.count c.len-n.result m.result u.ensures.count_value c.len-n.ensures m.ensures long in
-    l.invariant.0 ∙ ap (λ (k : List (List ℕ)). sets a.out.now 0 (sealed_from 1 k)) (take_all l.b (contents_of a.q) (omega (arith, count)))
-
-pub shape_of-out : goal.shape_of-out
-unfolding stored_in
-shape_of-out c = ap length (returns c) ∙ simp length-sets
+    let s = c.steps.ensures in
+    let all = blocks q _ _ _ (c.slots-slots.ensures ∙ c.new-used.ensures) (ap length s.used ∙ s.as_many) c.blocks-b-end.ensures in
+    let through : length (contents_of q) ≤ l.b = omega (arith, contents_count q s.as_many, all) in
+    l.invariant ∙ ap (λ (k : List (List ℕ)). sets c.args.out.now 0 (sealed_from 1 k)) (take_all l.b (contents_of q) through)

@@ -1,25 +1,17 @@
 -- `store::storing::store_bytes` meets its contract.
-use Prim.Native.Nat.{◌≤◌}
-use mathlib.Core.Path.{sym, ◌∙◌}
-use borrow.Author.Rules.{rules}
-use Rattle.store.proofs.Slots.{slots_few}
+use Rattle.std.proofs.Common.{◌≡◌, length, sym, ap, ◌∙◌, arith, rules}
+use Rattle.std.proofs.lemmas.List.{length-take-le}
+use Rattle.store.specs.Stored.{slots_in}
 use Rattle.store.proofs.Contents.{stores_none, stores_some}
 use Rattle.store.proofs.storing.store_bytes.Goals as goal
 
-pub returns-then-n-eq0 : goal.returns-then-n-eq0
-returns-then-n-eq0 c = stores_none c.args.q (sym c.len-n.ensures ∙ c.if-n-eq0.true)
-
-pub blocks_for-requires : goal.blocks_for-requires
-blocks_for-requires c =
-    let few : c.used_slots-used.result.count ≤ 8 = rw c.used_slots-used.ensures.count_value (slots_few c.args.q.records) in
-    (few, search rules)
-
-pub overflow_mul-result : goal.overflow_mul-result
-overflow_mul-result c =
-    let few : c.used_slots-used.result.count ≤ 8 = rw c.used_slots-used.ensures.count_value (slots_few c.args.q.records) in
-    search rules
+pub returns-then-len-eq0 : goal.returns-then-len-eq0
+returns-then-len-eq0 c = stores_none c.args.q.now (sym c.len.ensures ∙ c.if-len-eq0.true)
 
 pub returns : goal.returns
 returns c =
-    rw (c.blocks_for.ensures, c.used_slots-used.ensures.count_value, c.len-n.ensures)
-    (stores_some c.args.q (λ z. c.if-n-eq0.false (c.len-n.ensures ∙ z)))
+    let u = c.new.result in
+    let long : length u.cells ≡ 8 = search rules in
+    let few = u.few in
+    let clients : length (slots_in c.args.q.now.records) ≡ u.count = sym (ap length c.new.ensures) ∙ length-take-le u.count u.cells (omega arith) in
+    rw (c.blocks-2.ensures, ← clients, c.len-2.ensures) (stores_some c.args.q.now (λ z. c.if-len-eq0.false (c.len.ensures ∙ z)))
