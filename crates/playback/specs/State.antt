@@ -1,8 +1,9 @@
 -- The state of a playback, the names of its numbers, and what becomes of it.
 use Rattle.std.specs.Prelude.{ℕ, Bool, true, false, not, eqb, replicate}
 use Rattle.sequence.specs.Sequence.{most_steps}
-use Rattle.playback.specs.{declared.Sent.Sent, declared.Playback.Playback, declared.End.End}
+use Rattle.playback.specs.{declared.Sent.Sent, declared.Playback.Playback, declared.End.End, declared.Heard.Heard}
 use Rattle.playback.specs.declared.End.TheVariants.{GoesOn, ToReady, ToAbort}
+use Rattle.playback.specs.declared.Heard.TheVariants.{Nothing, Started, Done}
 
 -- the answer to a sent step: "01 marks it started, 00 and 10 done". A number that is not here counts as started
 abbrev pub answer_none : ℕ
@@ -13,6 +14,11 @@ answer_started = 1
 
 abbrev pub answer_done : ℕ
 answer_done = 2
+
+abbrev pub heard_number : Heard → ℕ
+heard_number Nothing = answer_none
+heard_number Started = answer_started
+heard_number Done = answer_done
 
 -- what becomes of a playback at a tick or an answer: "Playback goes to ready when all steps are done; to abort on .. an error answer .. or by the tick
 -- rules"

@@ -3,10 +3,10 @@ ghost use Rattle.std.specs.Prelude.{◌≡◌, ◌<◌, length, position};
 ghost use Rattle.message.specs.Fields.{status_number};
 ghost use Rattle.arrays.specs.Arrays.{some};
 ghost use Rattle.playback.specs.Pairs.{pairs};
-ghost use Rattle.playback.specs.State.{is_undone};
+ghost use Rattle.playback.specs.State.{heard_number, is_undone};
 ghost use Rattle.playback.specs.Answer.{is_answer_of, is_error, answer_from, is_function_of};
 
-use crate::{ANSWER_DONE, ANSWER_STARTED, Sent};
+use crate::{Heard, Sent};
 use message::{Reply, Status};
 use sequence::Step;
 
@@ -36,19 +36,19 @@ pub fn is_error(reply: Reply) -> bool
 }
 
 #[tactic(auto, unfolding(crate::specs::Answer::answer_from, octets::specs::Pick::pick))]
-pub fn answer_from(status: Status) -> u8
-    ensures { result ≡ answer_from (status_number status) }
+pub fn heard_from(status: Status) -> Heard
+    ensures { heard_number result ≡ answer_from (status_number status) }
 {
     match status {
-        Status::Started => ANSWER_STARTED,
-        Status::AtOnce | Status::Done | Status::Failed => ANSWER_DONE,
+        Status::Started => Heard::Started,
+        Status::AtOnce | Status::Done | Status::Failed => Heard::Done,
     }
 }
 
 fn is_undone(sent: &Sent) -> bool
     ensures { result ≡ is_undone sent.now }
 {
-    sent.answer != ANSWER_DONE
+    sent.answer != Heard::Done as u8
 }
 
 pub fn some_undone(left: &[Sent]) -> bool

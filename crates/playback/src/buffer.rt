@@ -3,7 +3,7 @@ ghost use Rattle.std.specs.Prelude.{◌≡◌, ◌≤◌, length};
 ghost use Rattle.arrays.specs.Arrays.{pad_to};
 ghost use Rattle.playback.specs.Frames.{frame_of, is_written, framed, frame_count};
 
-use crate::{ANSWER_NONE, Sent};
+use crate::{Heard, Sent};
 use octets::put_bytes;
 use sequence::Step;
 
@@ -11,7 +11,7 @@ use sequence::Step;
 fn is_written(sent: &Sent, ticks: u32) -> bool
     ensures { result ≡ is_written ticks sent.now }
 {
-    (sent.answer == ANSWER_NONE) & (sent.left % 2 == ticks % 2)
+    (sent.answer == Heard::Nothing as u8) & (sent.left % 2 == ticks % 2)
 }
 
 // A step's slot, and the eight bytes of its command.

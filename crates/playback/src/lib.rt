@@ -4,7 +4,7 @@
 ghost use Rattle.std.specs.Prelude.{◌≡◌, ◌++◌, ◌≤◌, ◌<◌, length, take, drop, unwrap_or, IfSome};
 ghost use Rattle.octets.specs.Refusals.{answer_number};
 ghost use Rattle.sequence.specs.Sequence.{length_of};
-ghost use Rattle.playback.specs.State.{blank_sent, blank_playback};
+ghost use Rattle.playback.specs.State.{heard_number, blank_sent, blank_playback};
 ghost use Rattle.playback.specs.Verification.{verify_of};
 ghost use Rattle.playback.specs.Tick.{is_late, some_late, does_stop, is_due, does_leave, next_tan, counted_playback, after_leaving, ticked, tick_of};
 ghost use Rattle.playback.specs.Frames.{frames_of, frame_count_of};
@@ -26,11 +26,12 @@ pub mod named;
 pub use named::first_named;
 
 // The answer to a sent step. A number that is not here counts as started.
-pub const ANSWER_NONE: u8 = 0;
-
-pub const ANSWER_STARTED: u8 = 1;
-
-pub const ANSWER_DONE: u8 = 2;
+#[derive(Clone, Copy, Debug, PartialEq, Eq)]
+pub enum Heard {
+    Nothing = 0,
+    Started = 1,
+    Done = 2,
+}
 
 // What becomes of a playback at a tick or an answer.
 #[derive(Clone, Copy, Debug, PartialEq, Eq)]
@@ -70,7 +71,7 @@ pub fn blank_playback() -> Playback
 {
     let sent = Sent {
         tan: 0,
-        answer: ANSWER_NONE,
+        answer: Heard::Nothing as u8,
         left: 0,
     };
     let commands = [sent; MOST_STEPS];
@@ -104,7 +105,8 @@ pub fn verify(slots: &[Client; SLOTS], sequence: &Sequence) -> Result<(), Refusa
 fn is_late(sent: &Sent, ticks: u32) -> bool
     ensures { result ≡ is_late ticks sent.now }
 {
-    (sent.answer == ANSWER_NONE) & (u64::from(sent.left) + ANSWER_TICKS <= u64::from(ticks))
+    (sent.answer == Heard::Nothing as u8)
+        & (u64::from(sent.left) + ANSWER_TICKS <= u64::from(ticks))
 }
 
 fn is_due(step: &Step, ticks: u32, distance: u32) -> bool
@@ -162,7 +164,7 @@ impl Playback {
     {
         self.commands[self.sent] = Sent {
             tan,
-            answer: ANSWER_NONE,
+            answer: Heard::Nothing as u8,
             left: self.ticks,
         };
         self.sent += 1;
@@ -218,11 +220,11 @@ impl Playback {
     }
 
     #[tactic(auto, unfolding(crate::specs::Answer::with_answer))]
-    fn set_answer(&mut self, i: usize, answer: u8)
+    fn set_answer(&mut self, i: usize, heard: Heard)
         requires { i < 64 }
-        ensures { self.new ≡ with_answer self.old i answer }
+        ensures { self.new ≡ with_answer self.old i (heard_number heard) }
     {
-        self.commands[i].answer = answer;
+        self.commands[i].answer = heard as u8;
     }
 
     // The sent step that an answer of this slot matches, by its number.
@@ -240,13 +242,13 @@ impl Playback {
         let Some(i) = self.matched(sequence, slot, reply) else {
             return Err(Refusal::NoMatch);
         };
-        if self.commands[i].answer == ANSWER_DONE {
+        if self.commands[i].answer == Heard::Done as u8 {
             return Ok(End::GoesOn);
         }
         if answers::is_error(reply) {
             return Ok(End::ToAbort);
         }
-        self.set_answer(i, answers::answer_from(reply.status));
+        self.set_answer(i, answers::heard_from(reply.status));
         if self.is_all_done(sequence.len()) {
             return Ok(End::ToReady);
         }

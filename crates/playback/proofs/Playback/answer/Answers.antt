@@ -9,11 +9,11 @@ pub returns-in_default : goal.returns-in_default
 unfolding pick answered_of
 returns-in_default c = rw (← c.in_default.ensures.number)
 
-pub returns-then-self-i-eq-ANSWER_DONE : goal.returns-then-self-i-eq-ANSWER_DONE
+pub returns-then-self-i : goal.returns-then-self-i
 unfolding pick answered_of
-returns-then-self-i-eq-ANSWER_DONE c =
+returns-then-self-i c =
     let i = c.in-Some.ensures in
-    rw (← i.number, lt-leb _ _ i.within, eq-eqb _ _ c.if-self-i-eq-ANSWER_DONE.true)
+    rw (← i.number, lt-leb _ _ i.within, eq-eqb _ _ c.if-self-i.true)
 
 pub returns-then-is_error : goal.returns-then-is_error
 unfolding pick answered_of
@@ -22,7 +22,7 @@ returns-then-is_error c =
     rw (
       ← i.number,
       lt-leb _ _ i.within,
-      ne_eqb _ _ c.if-self-i-eq-ANSWER_DONE.false,
+      ne_eqb _ _ c.if-self-i.false,
       said _ _ _ c.is_error.ensures c.if-is_error.true,
     )
 
@@ -33,9 +33,9 @@ returns-then-is_all_done c =
     rw (
       ← i.number,
       lt-leb _ _ i.within,
-      ne_eqb _ _ c.if-self-i-eq-ANSWER_DONE.false,
+      ne_eqb _ _ c.if-self-i.false,
       said _ _ _ c.is_error.ensures c.if-is_error.false,
-      ← c.answer_from.ensures,
+      ← c.heard_from.ensures,
       ← c.set_answer.ensures,
       ← c.len.ensures,
       said _ _ _ c.is_all_done.ensures c.if-is_all_done.true,
@@ -48,9 +48,9 @@ returns c =
     rw (
       ← i.number,
       lt-leb _ _ i.within,
-      ne_eqb _ _ c.if-self-i-eq-ANSWER_DONE.false,
+      ne_eqb _ _ c.if-self-i.false,
       said _ _ _ c.is_error.ensures c.if-is_error.false,
-      ← c.answer_from.ensures,
+      ← c.heard_from.ensures,
       ← c.set_answer.ensures,
       ← c.len.ensures,
       said _ _ _ c.is_all_done.ensures c.if-is_all_done.false,
