@@ -75,16 +75,16 @@ use std::process::exit;
 
 /// The most that the check of a full pool may take of the model's time.
 const CHECK: f64 = 3.0;
-/// The most copies of a master that a tick may make, and any call on a master; of an attach, beyond what judging its pool moves. With the compiler of the
-/// kit before they were 2.2 and 5.0 (docs/PORT.md), and so few are wanted again.
-const TICK_COPIES: f64 = 3.3;
-const COPIES: f64 = 10.5;
-/// The most bytes of stack of a call with its structs, 131,072 with that compiler; an attach judges its pool on it, which takes 70 KB by itself.
-const STACK: usize = 192_512;
+/// The most copies of a master that a tick may make, and any call on a master; of an attach, beyond what judging its pool moves. Two are the least of a call
+/// that changes a master which it is handed by value: into what it changes, and out.
+const TICK_COPIES: f64 = 2.2;
+const COPIES: f64 = 3.2;
+/// The most bytes of stack of a call with its structs; an attach judges its pool on it, which takes 70 KB by itself.
+const STACK: usize = 102_400;
 const ATTACH_STACK: usize = 172_032;
 /// Of a verification, which is handed a whole master and gives none back, the most of both.
-const VERIFY_COPIES: f64 = 2.0;
-const VERIFY_STACK: usize = 73_728;
+const VERIFY_COPIES: f64 = 1.1;
+const VERIFY_STACK: usize = 53_248;
 /// The readers that are handed the parts of a master that they read, and the most of both for them; so much stack for an object too.
 const READERS: [&str; 8] =
     ["scm_state", "scm_step_count", "scm_sequence_edition", "scm_step", "scm_client", "scm_progress", "scm_taken", "scm_sent"];

@@ -14,7 +14,7 @@
 
    Wrappers. The archive takes and gives structs by value. The inline functions here stand over its calls (scm_on over scm_master_on) and do nothing
    but hand over and copy what is wanted, and scm_shown_text puts a 0 after its text; they are what a host calls and what is explained. A call on a
-   master takes up to 188 KB of stack; HOST.md has each one's. */
+   master takes up to 162 KB of stack; HOST.md has each one's. */
 #ifndef SCM_H
 #define SCM_H
 

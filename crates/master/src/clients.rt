@@ -107,6 +107,7 @@ impl Master {
         }
     }
 
+    #[inline(never)]
     #[tactic(auto, using(crate::proofs::Calls::calls, crate::proofs::Pools::pools), unfolding(crate::specs::Clients::attach_call))]
     fn take(&mut self, slot: usize, name: u64, pool: &[u8]) -> Result<(), NotAttached>
         ensures { attached_by result self.new
@@ -172,6 +173,7 @@ impl Master {
         self.answers(answer)
     }
 
+    #[inline(never)]
     #[tactic(auto, using(crate::proofs::Calls::calls), unfolding(crate::specs::Clients::report_call, crate::specs::Clients::reported))]
     fn hear_report(&mut self, slot: usize, report: u32) -> Result<(), Refusal>
         ensures { gives (answer_number result) self.new

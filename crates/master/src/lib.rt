@@ -60,6 +60,8 @@ pub struct Outcome {
     pub master: Master,
 }
 
+// A method that a host's call makes takes the master and gives an outcome; what it calls changes the master where it stands. Of these the larger are not
+// inlined: laid into their caller they would have the master copied once or twice more.
 impl Master {
     #[tactic(auto, unfolding(crate::specs::States::new_master))]
     pub fn new() -> Master

@@ -25,6 +25,7 @@ impl Master {
     }
 
     // The sequence is verified only where the state allows it.
+    #[inline(never)]
     #[tactic(auto, using(crate::proofs::Calls::calls), unfolding(crate::specs::Playback::start_call))]
     fn begin_playback(&mut self) -> Result<(), Refusal>
         ensures { gives (answer_number result) self.new

@@ -29,6 +29,7 @@ impl Master {
         self.answers(answer)
     }
 
+    #[inline(never)]
     #[tactic(auto, using(crate::proofs::Calls::calls), unfolding(crate::specs::Recording::record_call))]
     fn begin_recording(&mut self) -> Result<(), Refusal>
         ensures { gives (answer_number result) self.new
@@ -132,6 +133,7 @@ impl Master {
         self.answers(answer)
     }
 
+    #[inline(never)]
     #[tactic(auto, using(crate::proofs::Calls::calls), unfolding(crate::specs::Recording::indication_call))]
     fn hear_indication(&mut self, slot: usize, msg: &[u8], out: &mut [u8]) -> Result<(), Refusal>
         ensures value { gives (answer_number result) self.new

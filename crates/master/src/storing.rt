@@ -22,6 +22,7 @@ impl Master {
         self.counts(answer)
     }
 
+    #[inline(never)]
     #[tactic(auto, using(crate::proofs::Calls::calls, crate::proofs::Stores::few_bytes, crate::proofs::Stores::some_step), unfolding(crate::specs::Storing::store_call))]
     fn write_blocks(&self, out: &mut [u8]) -> Result<u32, Refusal>
         ensures value { counted result self.now ≡ outcome_of self.now (store_call self.now out.old) }
@@ -43,6 +44,7 @@ impl Master {
         self.answers(answer)
     }
 
+    #[inline(never)]
     #[tactic(auto, using(crate::proofs::Calls::calls), unfolding(crate::specs::Storing::load_call))]
     fn read_blocks(&mut self, blocks: &[u8]) -> Result<(), Refusal>
         ensures { gives (answer_number result) self.new

@@ -20,6 +20,7 @@ impl Master {
         self.counts(answer)
     }
 
+    #[inline(never)]
     #[tactic(auto, using(crate::proofs::Calls::calls), unfolding(crate::specs::Tick::tick_call))]
     fn pass(&mut self, mm: u32, out: &mut [u8]) -> Result<u32, Refusal>
         ensures value { counted result self.new ≡ outcome_of self.old (tick_call self.old mm out.old) }
