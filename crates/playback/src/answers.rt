@@ -1,5 +1,5 @@
 // What an answer says, and which step a message is for.
-ghost use Rattle.std.specs.Prelude.{◌≡◌, ◌<◌, length, position};
+ghost use Rattle.std.specs.Prelude.{◌≡◌, position};
 ghost use Rattle.message.specs.Fields.{status_number};
 ghost use Rattle.arrays.specs.Arrays.{some};
 ghost use Rattle.playback.specs.Pairs.{pairs};
