@@ -276,19 +276,6 @@ impl From<MessageStep> for Receipt {
     }
 }
 
-// For the crate above.
-pub fn execution_from(x: MessageStep) -> Execution
-    ensures { result ≡ execution_from x }
-{
-    Execution::from(x)
-}
-
-pub fn reply_from(x: MessageStep) -> Reply
-    ensures { result ≡ reply_from x }
-{
-    Reply::from(x)
-}
-
 impl From<Flat> for Message {
     ghost from_gives = { λ flat message. message ≡ message_from flat };
 

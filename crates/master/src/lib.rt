@@ -26,7 +26,8 @@ pub mod records;
 pub mod storing;
 pub mod ticks;
 
-// A state; the numbering is the library's own. A number that is not here counts as abort.
+// A state; the numbering is the library's own. A number that is not here counts as abort. There is no `From<u8>`: a method asks whether the master is in one
+// state (`is`), which is plainer than a state made from the number beside it.
 #[derive(Clone, Copy, Debug, PartialEq, Eq)]
 pub enum State {
     Inactive = 0,

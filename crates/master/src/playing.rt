@@ -11,7 +11,6 @@ ghost use Rattle.master.specs.Playback.{start_call, abort_call, unheeded, client
 use crate::messages::{has_room, write_receipt};
 use crate::{Master, Outcome, State};
 use flat::kinds::{ANSWER, CLIENT_ABORT};
-use flat::reply_from;
 use message::{CLIENT, Reply};
 use octets::numbers::Refusal;
 use playback::{End, blank_playback, verify};
@@ -161,5 +160,5 @@ fn replied(msg: &[u8]) -> Result<Reply, Refusal>
     if message.kind != ANSWER {
         return Err(Refusal::WrongValue);
     }
-    Ok(reply_from(message.step))
+    Ok(Reply::from(message.step))
 }

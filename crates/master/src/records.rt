@@ -13,10 +13,8 @@ ghost use Rattle.master.specs.Recording.{unready, record_call, recording_ended, 
 use crate::messages::{has_room, write_response};
 use crate::{Master, Outcome, State};
 use client::Report;
-use flat::execution_from;
 use flat::kinds::INDICATION;
-use message::fields::status_number;
-use message::{CLIENT, Execution};
+use message::{CLIENT, Execution, Status};
 use octets::numbers::Refusal;
 use playback::has_function;
 use recording::{blank_recording, number_of};
@@ -158,11 +156,11 @@ impl Master {
     {
         let client = &self.slots[slot];
         let enabled = client.is_enabled();
-        let status = status_number(execution.status);
+        let failed = matches!(execution.status, Status::Failed);
         if self.is_recording() & enabled & (client.report == Report::Record as u8) {
             return Ok(());
         }
-        if self.is(State::Playback) & enabled & (status == 0b11) {
+        if self.is(State::Playback) & enabled & failed {
             return Ok(());
         }
         Err(Refusal::NotExpected)
@@ -225,5 +223,5 @@ fn indicated(msg: &[u8]) -> Result<Execution, Refusal>
     if message.kind != INDICATION {
         return Err(Refusal::WrongValue);
     }
-    Ok(execution_from(message.step))
+    Ok(Execution::from(message.step))
 }

@@ -1,6 +1,6 @@
 // Codes and bits.
 ghost use Rattle.std.specs.Prelude.{◌≡◌};
-ghost use Rattle.message.specs.Fields.{known, status_from, status_of, status_number, packed};
+ghost use Rattle.message.specs.Fields.{known, status_from, status_of, packed};
 
 use crate::Status;
 
@@ -20,13 +20,6 @@ pub fn is_pool_code(code: u8) -> bool
         0x0D..=0xFE => false,
         0xFF => true,
     }
-}
-
-// The number of a status, for the crates above.
-pub fn status_number(status: Status) -> u8
-    ensures { result ≡ status_number status }
-{
-    status.number()
 }
 
 // Of two bits. A number above 11 is no status: who takes one from outside refuses it first (`flat`).

@@ -118,7 +118,8 @@ pub fn state_at(s: &[u8], at: usize) -> StateHead
     }
 }
 
-// The fixed part of the object at a place, by its type.
+// The fixed part of the object at a place, by its type. The byte is compared here, and no type is made of it: any other than the first two is read as a
+// state's, whether the object is one or not.
 pub fn head_at(s: &[u8], at: usize) -> Head
     requires { at < 65536 }
     ensures { result ≡ head_at s.now at }

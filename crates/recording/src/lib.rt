@@ -17,7 +17,6 @@ ghost use Rattle.recording.specs.Kept.{stays, stayed, records_from, kept_sequenc
 
 use arrays::{at_most, more};
 use client::{Client, ClientRecord, SLOTS, blank_record};
-use message::fields::status_number;
 use message::{Execution, Status};
 use profile::Profile;
 use sequence::{FIRST_EDITION, MOST_STEPS, Sequence, Step, blank_sequence, blank_step};
@@ -341,7 +340,7 @@ impl Recording {
         Taken {
             step,
             tan: e.tan,
-            status: status_number(e.status),
+            status: e.status.number(),
         }
     }
 
