@@ -3,9 +3,11 @@ use mathlib.Core.Path.{◌≡◌, refl, sym, ap, ◌∙◌}
 use mathlib.Core.Bool.{Bool, true, false, cond}
 use mathlib.Core.List.{List, [], ◌∷◌, ◌++◌, append-nil, append_assoc}
 use Prim.Native.Nat.{ℕ, suc, ◌+◌, ◌*◌, ◌≤◌}
+use native.Mathlib.Nat.{zero-add}
 use native.Mathlib.Omega.{arith}
-use lib.ListN.{take, length, replicate, length-append}
+use lib.ListN.{take, drop, length, replicate, length-append}
 use lib.Seq.{sets}
+use Rattle.std.proofs.lemmas.List.Edits.{sets-eq}
 use Rattle.arrays.specs.Arrays.{pad_to}
 use Rattle.arrays.proofs.Fill.{pad_none, length_pad, pad_set}
 use Rattle.sequence.specs.declared.Step.{Step}
@@ -79,3 +81,7 @@ length_filled ticks n ss cs = length_pad 0 576 (framed (is_written ticks) (take 
 pub none : (ticks : ℕ) (ss : List Step) (cs : List Sent) → replicate 576 0 ≡ filled_of ticks 0 ss cs
 unfolding filled_of
 none ticks ss cs = pad_none 0 576
+
+-- what a copy of the whole buffer leaves
+pub copied : (b f out : List ℕ) (n : ℕ) → b ≡ f → length f ≡ n → n ≤ length out → sets out 0 b ≡ f ++ drop n out
+copied b f out n e q h = rw (e, ← q) (sets-eq f out 0 (omega arith) ∙ rw (zero-add (length f)))

@@ -1,5 +1,5 @@
 // The frames of a tick in a buffer of 576 bytes, nine to a frame.
-ghost use Rattle.std.specs.Prelude.{◌≡◌, ◌≤◌, length};
+ghost use Rattle.std.specs.Prelude.{◌≡◌, ◌≤◌, length, replicate};
 ghost use Rattle.arrays.specs.Arrays.{pad_to};
 ghost use Rattle.playback.specs.Frames.{frame_of, is_written, framed, frame_count};
 
@@ -22,15 +22,14 @@ fn frame_of(step: &Step, tan: u8) -> [u8; 9]
     [step.slot, 0x33, step.function, step.state, tan, a, b, c, d]
 }
 
-// The frames of what is written at this tick, one after the other, and zeros after them; how many they are.
+// The frames of what is written at this tick, one after the other, into a buffer of zeros; how many they are.
 pub fn fill(ticks: u32, left: &[Sent], steps: &[Step], out: &mut [u8]) -> u32
-    requires room { length out.old ≡ 576 }
+    requires zeros { out.old ≡ replicate 576 0 }
     requires cells { length steps.now ≡ 64 }
     requires few { length left.now ≤ 64 }
     ensures value { result ≡ frame_count (is_written ticks) left.now }
     ensures out_after { out.new ≡ pad_to 0 576 (framed (is_written ticks) left.now steps.now) }
 {
-    out.fill(0);
     let mut count: usize = 0;
     for (step, sent) in steps.iter().zip(left) {
         if is_written(sent, ticks) {

@@ -201,12 +201,15 @@ pub fn frames(playback: &Playback, sequence: &Sequence, out: &mut [u8]) -> u32
     ensures value { result ≡ frame_count_of playback.now.ticks playback.now.sent playback.now.commands }
     ensures out_after { out.new ≡ frames_of playback.now sequence.now.steps ++ drop 576 out.old }
 {
-    buffer::fill(
+    let mut filled = [0u8; 576];
+    let count = buffer::fill(
         playback.ticks,
         playback.left(),
         &sequence.steps,
-        &mut out[..576],
-    )
+        &mut filled,
+    );
+    octets::put_bytes(out, 0, &filled);
+    count
 }
 
 // ---- an answer

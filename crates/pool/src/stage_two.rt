@@ -305,19 +305,24 @@ fn label_fault(s: &[u8], b: usize) -> Result<(), Fault>
     Ok(())
 }
 
+const NO_BASE: Fault = Fault {
+    code: Code::NoBase,
+    object: 0x0000,
+};
+
 // The rules that need no list, in their order: 02, 05, 0C, 0A. Where they find no fault, the place of the base.
 pub fn objects_fault(s: &[u8], ps: &[u16], base: Option<usize>) -> Result<usize, Fault>
     requires places_in { Within s.now ps.now }
-    requires base_in { IfSome base (λ b. (b < 65536) × (b < length s.now)) }
+    requires base_in { IfSome base (λ b. b < 65536) }
     ensures verdict_value { said result ≡ first_of (take 4 (rules_of s.now ps.now (unwrap_or base (length s.now)))) }
     ensures base_value { IfOk result (λ b. base ≡ Some b) }
 {
     let Some(b) = base else {
-        return Err(Fault {
-            code: Code::NoBase,
-            object: 0x0000,
-        });
+        return Err(NO_BASE);
     };
+    if s.len() <= b {
+        return Err(NO_BASE);
+    }
     numbers_fault(s, ps)?;
     if base_at(s, b).version != 2 {
         return Err(Fault {

@@ -27,7 +27,7 @@ slice_bounds-objects_fault-end-2 c = let w = c.in_ok-met.ensures.walks in sym (l
 pub objects_fault-requires : goal.objects_fault-requires
 objects_fault-requires c =
     let met = c.in_ok-met.ensures in
-    record { places_in = met.walks.within; base_in = IfSome_then c.in_ok-met.met.base met.within (λ b h. (omega arith, h)) }
+    record { places_in = met.walks.within; base_in = IfSome_then c.in_ok-met.met.base met.within (λ b h. omega arith) }
 
 pub returns-in_err-base-clause-verdict_value : goal.returns-in_err-base-clause-verdict_value
 returns-in_err-base-clause-verdict_value c =

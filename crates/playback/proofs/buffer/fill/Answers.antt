@@ -15,10 +15,9 @@ pub loop-step-init : goal.loop-step-init
 loop-step-init c =
     let a = c.args in
     let h = c.requires in
-    let e : c.fill.new.self ≡ replicate 576 0 = c.fill.ensures.after (λ y e. e) ∙ ap (λ (n : ℕ). replicate n 0) h.room in
     let x : iter_rest (zip_first c.into_iter-step-iterator.result) ≡ a.steps.now = search rules in
     let y : iter_rest (zip_second c.into_iter-step-iterator.result) ≡ a.left.now = search rules in
-    rw (x, y) (starts (is_written a.ticks) a.steps.now a.left.now _ e h.few (omega arith))
+    rw (x, y) (starts (is_written a.ticks) a.steps.now a.left.now _ h.zeros h.few (omega arith))
 
 pub loop-step-preserved-then-is_written : goal.loop-step-preserved-then-is_written
 loop-step-preserved-then-is_written c =
