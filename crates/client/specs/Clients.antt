@@ -2,7 +2,8 @@
 -- report disabled."
 use Rattle.std.specs.Prelude.{ℕ, Bool, not, ◌&&◌, [], eqb}
 use Rattle.profile.specs.{Profile.blank_profile, declared.Profile.Profile}
-use Rattle.client.specs.declared.Client.{Client}
+use Rattle.client.specs.{declared.Client.Client, declared.Test.Test}
+use Rattle.client.specs.declared.Test.TheVariants.{Awake, Enabled, Named, Other}
 
 -- "Eight slots."
 abbrev pub slot_count : ℕ
@@ -46,6 +47,13 @@ is_named name s = is_taken s && eqb s.name name
 -- an enabled client whose last report is not this one
 abbrev pub is_other : ℕ → Client → Bool
 is_other report s = is_enabled s && not (eqb s.report report)
+
+-- what a slot may be asked
+abbrev pub passes : Test → Client → Bool
+passes Awake s = is_awake s
+passes Enabled s = is_enabled s
+passes (Named name) s = is_named name s
+passes (Other report) s = is_other report s
 
 -- an empty slot
 unfoldable pub blank_slot : Client

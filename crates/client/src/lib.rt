@@ -2,7 +2,8 @@
 #![tactic(auto)]
 
 ghost use Rattle.std.specs.Prelude.{◌≡◌};
-ghost use Rattle.client.specs.Clients.{is_taken, is_enabled, is_awake, is_named, is_other, blank_slot, attached};
+ghost use Rattle.arrays.specs.Arrays.{some};
+ghost use Rattle.client.specs.Clients.{is_taken, is_enabled, is_awake, is_named, is_other, passes, blank_slot, attached};
 ghost use Rattle.client.specs.Records.{blank_record, record_of};
 ghost use Rattle.client.specs.Reports.{report_number, report_of};
 
@@ -69,6 +70,19 @@ pub struct ClientRecord {
     pub master: u64,
     pub version: Label,
     pub configuration: Label,
+}
+
+// What a slot may be asked.
+#[derive(Clone, Copy)]
+pub enum Test {
+    // A client is attached that last reported something else than disabled.
+    Awake,
+    // A client is enabled.
+    Enabled,
+    // A client of this NAME is attached.
+    Named(u64),
+    // An enabled client last reported something else than this number.
+    Other(u8),
 }
 
 #[tactic(auto, unfolding(crate::specs::Clients::blank_slot))]
@@ -148,6 +162,17 @@ impl Client {
         self.is_enabled() & (self.report != report.number())
     }
 
+    fn passes(&self, test: Test) -> bool
+        ensures { result ≡ passes test self.now }
+    {
+        match test {
+            Test::Awake => self.is_awake(),
+            Test::Enabled => self.is_enabled(),
+            Test::Named(name) => self.is_named(name),
+            Test::Other(report) => self.is_enabled() & (self.report != report),
+        }
+    }
+
     // The client's record in a sequence.
     #[tactic(auto, unfolding(crate::specs::Records::record_of))]
     pub fn kept_record(&self) -> ClientRecord
@@ -161,4 +186,11 @@ impl Client {
             configuration: self.profile.configuration,
         }
     }
+}
+
+// Some slot passes the test.
+pub fn some_slot(slots: &[Client; SLOTS], test: Test) -> bool
+    ensures { result ≡ some (passes test) slots.now }
+{
+    slots.iter().any(|client| client.passes(test))
 }

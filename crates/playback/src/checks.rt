@@ -134,9 +134,9 @@ fn is_not_ready(client: &Client, recorded: &ClientRecord) -> bool
 }
 
 // The lowest slot of which 12 does not hold.
-pub fn lowest_not_ready(slots: &[Client; SLOTS], sequence: &Sequence) -> Option<usize>
-    ensures { result ≡ position (fails ready_checks) (pairs slots.now sequence.now.records) }
+pub fn lowest_not_ready(slots: &[Client; SLOTS], records: &[ClientRecord; SLOTS]) -> Option<usize>
+    ensures { result ≡ position (fails ready_checks) (pairs slots.now records.now) }
 {
-    let mut clients = slots.iter().zip(&sequence.records);
+    let mut clients = slots.iter().zip(records);
     clients.position(|(client, recorded)| is_not_ready(client, recorded))
 }

@@ -94,7 +94,7 @@ pub fn verify(slots: &[Client; SLOTS], sequence: &Sequence) -> Result<(), Refusa
     if checks::first_missing(slots, sequence.steps()).is_some() {
         return Err(Refusal::NotInPool);
     }
-    if checks::lowest_not_ready(slots, sequence).is_some() {
+    if checks::lowest_not_ready(slots, &sequence.records).is_some() {
         return Err(Refusal::NotReady);
     }
     Ok(())

@@ -3,13 +3,22 @@ ghost use Rattle.std.specs.Prelude.{◌≡◌, get_or, position};
 ghost use Rattle.sequence.specs.Sequence.{blank_step};
 ghost use Rattle.playback.specs.Pairs.{pairs};
 ghost use Rattle.playback.specs.Verification.{rule_of, client_checks};
-ghost use Rattle.playback.specs.Named.{fails, named_of};
+ghost use Rattle.playback.specs.Named.{fails, named_by, named_of};
 
-use crate::checks::{client_check, first_missing, lowest_not_ready};
+pub use crate::checks::lowest_not_ready;
+
+use crate::checks::{client_check, first_missing};
 use crate::verify;
 use client::{Client, SLOTS};
-use octets::numbers::{DONE, Refusal};
+use octets::numbers::{Refusal, number_of};
 use sequence::{MOST_STEPS, Sequence};
+
+// As numbers, since any may be named.
+const NOT_ENABLED: u8 = Refusal::NotEnabled as u8;
+
+const NOT_IN_POOL: u8 = Refusal::NotInPool as u8;
+
+const NOT_READY: u8 = Refusal::NotReady as u8;
 
 // Of the numbers that a start gives, slot is that of 8, 9, 10, 11 and 12, step that of 11; else they are 0.
 // The number stays one, since a host reads this struct.
@@ -39,20 +48,12 @@ fn slot_of(sequence: &Sequence, i: usize) -> usize
     }
 }
 
-// Done, or the first check that does not hold, with its slot and its step.
-pub fn first_named(slots: &[Client; SLOTS], sequence: &Sequence) -> Named
-    ensures { result ≡ named_of slots.now sequence.now }
+// A number that a start gives, with the slot and the step that it is about.
+pub fn named_by(number: u8, slots: &[Client; SLOTS], sequence: &Sequence) -> Named
+    ensures { result ≡ named_by number slots.now sequence.now }
 {
-    let Err(why) = verify(slots, sequence) else {
-        return Named {
-            number: DONE,
-            slot: 0,
-            step: 0,
-        };
-    };
-    let number = why.number();
-    match why {
-        Refusal::NotInPool => {
+    match number {
+        NOT_IN_POOL => {
             let step = first_missing(slots, sequence.steps()).unwrap_or(MOST_STEPS);
             Named {
                 number,
@@ -60,12 +61,12 @@ pub fn first_named(slots: &[Client; SLOTS], sequence: &Sequence) -> Named
                 step,
             }
         }
-        Refusal::NotReady => Named {
+        NOT_READY => Named {
             number,
-            slot: lowest_not_ready(slots, sequence).unwrap_or(SLOTS),
+            slot: lowest_not_ready(slots, &sequence.records).unwrap_or(SLOTS),
             step: 0,
         },
-        Refusal::NotEnabled | Refusal::NameDiffers | Refusal::LabelDiffers => Named {
+        NOT_ENABLED..=255 => Named {
             number,
             slot: lowest_failing(slots, sequence).unwrap_or(SLOTS),
             step: 0,
@@ -76,4 +77,12 @@ pub fn first_named(slots: &[Client; SLOTS], sequence: &Sequence) -> Named
             step: 0,
         },
     }
+}
+
+// Done, or the first check that does not hold, with its slot and its step.
+#[tactic(auto, unfolding(crate::specs::Named::named_of))]
+pub fn first_named(slots: &[Client; SLOTS], sequence: &Sequence) -> Named
+    ensures { result ≡ named_of slots.now sequence.now }
+{
+    named_by(number_of(verify(slots, sequence)), slots, sequence)
 }

@@ -11,7 +11,7 @@ ghost use Rattle.pool.specs.Search.Index.{Within, Indexed};
 ghost use Rattle.pool.specs.Search.Look.{Right, set_of, Sets};
 ghost use Rattle.pool.specs.StageTwo.{object_of, id_of, first_repeat, label_bytes, is_forbidden, character_right, repeat_fault, character_fault, absent_fault, ids_fault, states_absent, states_alike, rules_of};
 
-use crate::ObjectType;
+use crate::{ObjectType, STATE_TYPE};
 use crate::fields::{Listed, base_at, functions_of, id_at, states_of, version_label};
 use crate::seen::Seen;
 use crate::verdicts::{Code, Fault};
@@ -57,9 +57,9 @@ impl<'a> Index<'a> {
         }
     }
 
-    // The place of the object of this number and type.
-    pub fn find_object(&self, kind: ObjectType, n: u16) -> Option<usize>
-        ensures place { unwrap_or result (length self.now.pool.now) ≡ object_of self.now.pool.now self.now.places.now (type_number kind) n }
+    // The place of the object of this number and type, which is a byte as it stands in a pool.
+    pub fn find_object(&self, kind: u8, n: u16) -> Option<usize>
+        ensures place { unwrap_or result (length self.now.pool.now) ≡ object_of self.now.pool.now self.now.places.now kind n }
         ensures within { IfSome result (λ p. p + 8 ≤ length self.now.pool.now) }
     {
         let b = (n % CHAINS) as usize;
@@ -69,7 +69,7 @@ impl<'a> Index<'a> {
             let p = self.places[i] as usize;
             let number = u16_in(self.pool, p);
             let found = self.pool[p + 2];
-            if (number == n) & (found == kind.number()) {
+            if (number == n) & (found == kind) {
                 return Some(p);
             }
             i = self.chain[16384 + i] as usize;
@@ -77,12 +77,12 @@ impl<'a> Index<'a> {
         None
     }
 
-    // The same; past the pool's end, where every byte reads as 0, where there is none.
+    // The same of one of the three types; past the pool's end, where every byte reads as 0, where there is none.
     pub fn place_of(&self, kind: ObjectType, n: u16) -> usize
         ensures place { result ≡ object_of self.now.pool.now self.now.places.now (type_number kind) n }
         ensures within { result ≤ 16384 }
     {
-        self.find_object(kind, n).unwrap_or(self.pool.len())
+        self.find_object(kind.number(), n).unwrap_or(self.pool.len())
     }
 
     // The ID of each object of this type in a list of numbers, at the front; the other cells are 0.
@@ -103,7 +103,7 @@ impl<'a> Index<'a> {
     {
         for k in 0..list.count {
             let object = list.number(self.pool, k);
-            if self.find_object(kind, object).is_none() {
+            if self.find_object(kind.number(), object).is_none() {
                 return Err(Fault { code, object });
             }
         }
@@ -139,7 +139,7 @@ impl<'a> Index<'a> {
     {
         let mut ids: u64 = 0;
         for k in (0..list.count).rev() {
-            let p = self.find_object(ObjectType::State, list.number(self.pool, k))?;
+            let p = self.find_object(STATE_TYPE, list.number(self.pool, k))?;
             let id = self.pool[p + 3];
             if 63 < id {
                 return None;

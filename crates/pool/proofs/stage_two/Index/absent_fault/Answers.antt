@@ -23,7 +23,7 @@ returns-then-is_none c =
     let ps = a.self.now.places.now in
     let l = numbers_at 2 s a.list.at a.list.count in
     let n = c.number-object.result in
-    let p : object_of s ps (type_number a.kind) n ≡ length s = sym c.find_object.ensures.place ∙ nowhere c.find_object.result (length s) c.if-is_none.ensures in
+    let p : object_of s ps (type_number a.kind) n ≡ length s = rw (← c.number.ensures) (sym c.find_object.ensures.place) ∙ nowhere c.find_object.result (length s) c.if-is_none.ensures in
     let e : absent_fault s ps (code_number a.code) (type_number a.kind) n ≡ verdict (code_number a.code) n = pick_true _ _ _ (le-leb _ _ (omega (arith, p))) in
     sym (i.invariant ∙ fault_here (absent_fault s ps (code_number a.code) (type_number a.kind)) l i.k _ (omega (arith, length_numbers 2 s a.list.at a.list.count)) (ap (absent_fault s ps (code_number a.code) (type_number a.kind)) (sym c.number-object.ensures) ∙ e) (code_not_zero a.code))
 
@@ -37,7 +37,7 @@ loop-k-preserved c =
     let l = numbers_at 2 s a.list.at a.list.count in
     let n = c.number-object.result in
     let there = somewhere c.find_object.result (length s) c.if-is_none.ensures c.find_object.ensures.within in
-    let p : object_of s ps (type_number a.kind) n < length s = rw c.find_object.ensures.place at there in
+    let p : object_of s ps (type_number a.kind) n < length s = rw (← c.number.ensures) (rw c.find_object.ensures.place at there) in
     let e : absent_fault s ps (code_number a.code) (type_number a.kind) n ≡ fine = pick_false _ _ _ (lt-leb _ _ p) in
     i.invariant ∙ fault_next (absent_fault s ps (code_number a.code) (type_number a.kind)) l i.k fine (omega (arith, length_numbers 2 s a.list.at a.list.count)) (ap (absent_fault s ps (code_number a.code) (type_number a.kind)) (sym c.number-object.ensures) ∙ e) refl
 

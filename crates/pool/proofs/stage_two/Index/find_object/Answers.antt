@@ -4,7 +4,6 @@ use native.Mathlib.Omega.{arith}
 use mathlib.Core.Path.{◌≡◌, sym, ◌∙◌}
 use mathlib.Core.Bool.{true, false}
 use lib.ListN.{length, get_or}
-use Rattle.pool.specs.Types.{type_number}
 use Rattle.pool.specs.StageTwo.{is_object, object_of}
 use Rattle.pool.proofs.Lists.{find_end, find_here}
 use Rattle.pool.proofs.Index.{chain_start, chain_later, chain_next}
@@ -13,7 +12,7 @@ use Rattle.pool.proofs.stage_two.Index.find_object.Goals as goal
 pub loop-i-init : goal.loop-i-init
 loop-i-init c =
     let x = c.args.self.now in
-    let o = chain_start x.pool.now x.places.now x.chain.now x.indexed (type_number c.args.kind) c.args.n in
+    let o = chain_start x.pool.now x.places.now x.chain.now x.indexed c.args.kind c.args.n in
     (o.same, o.holds)
 
 -- at the place stand 8 bytes at least
@@ -31,10 +30,10 @@ returns-then-number-n c =
     let i = c.loop-i in
     let a = c.args in
     let x = a.self.now in
-    let e : is_object x.pool.now (type_number a.kind) a.n (get_or x.places.now i.i 0) ≡ true =
-    simp (← c.u16_in-number.ensures, ← c.number.ensures) c.if-number-n.true in
+    let e : is_object x.pool.now a.kind a.n (get_or x.places.now i.i 0) ≡ true =
+    simp (← c.u16_in-number.ensures) c.if-number-n.true in
     record {
-      place = sym (i.invariant.0 ∙ find_here (is_object x.pool.now (type_number a.kind) a.n) x.places.now (length x.pool.now) i.i (omega arith) e);
+      place = sym (i.invariant.0 ∙ find_here (is_object x.pool.now a.kind a.n) x.places.now (length x.pool.now) i.i (omega arith) e);
       within = omega (arith, x.indexed.within i.i (omega arith));
     }
 
@@ -43,7 +42,7 @@ loop-i-smaller c =
     let i = c.loop-i in
     let a = c.args in
     let x = a.self.now in
-    omega (arith, chain_later x.pool.now x.places.now x.chain.now x.indexed (type_number a.kind) a.n i.i (omega arith) (record { same = i.invariant.0; holds = i.invariant.1 }))
+    omega (arith, chain_later x.pool.now x.places.now x.chain.now x.indexed a.kind a.n i.i (omega arith) (record { same = i.invariant.0; holds = i.invariant.1 }))
 
 pub loop-i-preserved : goal.loop-i-preserved
 unfolding is_object
@@ -51,9 +50,9 @@ loop-i-preserved c =
     let i = c.loop-i in
     let a = c.args in
     let x = a.self.now in
-    let e : is_object x.pool.now (type_number a.kind) a.n (get_or x.places.now i.i 0) ≡ false =
-    simp (← c.u16_in-number.ensures, ← c.number.ensures) c.if-number-n.false in
-    let o = chain_next x.pool.now x.places.now x.chain.now x.indexed (type_number a.kind) a.n i.i (omega arith) (record { same = i.invariant.0; holds = i.invariant.1 }) e in
+    let e : is_object x.pool.now a.kind a.n (get_or x.places.now i.i 0) ≡ false =
+    simp (← c.u16_in-number.ensures) c.if-number-n.false in
+    let o = chain_next x.pool.now x.places.now x.chain.now x.indexed a.kind a.n i.i (omega arith) (record { same = i.invariant.0; holds = i.invariant.1 }) e in
     (o.same, o.holds)
 
 pub returns-clause-place : goal.returns-clause-place
@@ -62,4 +61,4 @@ returns-clause-place c =
     let i = c.loop-i in
     let a = c.args in
     let x = a.self.now in
-    sym (i.invariant.0 ∙ find_end (is_object x.pool.now (type_number a.kind) a.n) x.places.now (length x.pool.now) i.i (omega arith))
+    sym (i.invariant.0 ∙ find_end (is_object x.pool.now a.kind a.n) x.places.now (length x.pool.now) i.i (omega arith))
