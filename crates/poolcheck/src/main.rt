@@ -1,32 +1,41 @@
 // Reads a pool from standard input to its end, and writes the verdict on it as a line.
 #![tactic(auto)]
 
-ghost use Rattle.std.specs.Prelude.{◌≤◌, IfOk, Some, length};
-ghost use Rattle.poolcheck.specs.Line.{line_of};
+ghost use Rattle.std.specs.Prelude.{◌≡◌, ◌<◌, ◌≤◌, IfOk, length};
+ghost use Rattle.poolcheck.specs.Line.{digit_of, line_of};
 
 use pool::Verdict;
+use std::io;
 use std::io::{Read, Write};
-use std::{fmt, io};
 
-// A verdict as the line that is written.
-#[derive(Drop)]
-struct Line(Verdict);
+fn digit(n: u8) -> u8
+    requires { n < 16 }
+    ensures { result ≡ digit_of n }
+{
+    if n < 10 { 48 + n } else { 55 + n }
+}
 
-impl fmt::Display for Line {
-    ghost output = { λ line. Some (line_of line.0) };
-
-    fn fmt<W: fmt::Write>(&self, f: &mut fmt::Formatter<W>) -> fmt::Result {
-        let code = self.0.code;
-        let object = self.0.object;
-        writeln!(f, "{code:02X} {object:04X}")
-    }
+fn line(v: Verdict) -> [u8; 8]
+    ensures { result ≡ line_of v }
+{
+    let code = v.code;
+    let object = v.object;
+    [
+        digit(code / 16),
+        digit(code % 16),
+        32,
+        digit((object / 4096) as u8),
+        digit((object / 256 % 16) as u8),
+        digit((object / 16 % 16) as u8),
+        digit((object % 16) as u8),
+        10,
+    ]
 }
 
 // Reads until the buffer is full or the input ends, and gives how many bytes it put at the buffer's start.
 fn read_full<R: Read>(input: &mut R, buffer: &mut [u8]) -> io::Result<usize>
     ensures { IfOk result (λ n. n ≤ length buffer.new) }
 {
-    // The library's read_exact does not say how many bytes came before the end, and its read_to_end needs a heap.
     let mut done = 0;
     while done < buffer.len() {
         let n = input.read(&mut buffer[done..])?;
@@ -58,5 +67,5 @@ fn main(rt: HostRuntime) -> io::Result<()> {
     if n == 65536 {
         drain(&mut input)?;
     }
-    rt.print(Line(verdict))
+    io::writer(&rt).write_all(&line(verdict))
 }
