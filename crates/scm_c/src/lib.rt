@@ -1,5 +1,4 @@
-// The calls for C, as include/scm.h declares them: each is the function of crate scm of its name, with the same contract and the same body, word for word,
-// since a call through scm would copy the master once more. The gate sees that the two agree. This crate is libscm.a.
+// The calls for C, as include/scm.h declares them: each is the function of crate scm of its name, with the same contract. This crate is libscm.a.
 #![tactic(auto)]
 
 ghost use Rattle.std.specs.Prelude.{◌≡◌, [], length};
@@ -41,7 +40,6 @@ use printed::Printed;
 use profile::Profile;
 use recording::Recording;
 use rewrite::Rewritten;
-use scm::VERSION;
 use sequence::Sequence;
 use shown::Shown;
 
@@ -49,21 +47,21 @@ use shown::Shown;
 pub extern "C" fn scm_version() -> u32
     ensures { result ≡ version }
 {
-    VERSION
+    scm::scm_version()
 }
 
 #[unsafe(no_mangle)]
 pub extern "C" fn scm_pool_check(bytes: &[u8]) -> Verdict
     ensures { result ≡ verdict_of bytes.now }
 {
-    pool::check(bytes)
+    scm::scm_pool_check(bytes)
 }
 
 #[unsafe(no_mangle)]
 pub extern "C" fn scm_profile_of(bytes: &[u8]) -> Profile
     ensures { result ≡ profile_of bytes.now }
 {
-    profile::profile_of(bytes)
+    scm::scm_profile_of(bytes)
 }
 
 // The object at a place of a pool.
@@ -71,7 +69,7 @@ pub extern "C" fn scm_profile_of(bytes: &[u8]) -> Profile
 pub extern "C" fn scm_object_at(bytes: &[u8], place: usize) -> FlatObject
     ensures { result ≡ flat_object place (found_at bytes.now place) }
 {
-    flat_object::object_at(bytes, place)
+    scm::scm_object_at(bytes, place)
 }
 
 // The bytes of an object, at a place of the lent buffer.
@@ -84,7 +82,7 @@ pub extern "C" fn scm_write_object(
     ensures value { result ≡ write_answer (object_from object) out.old place }
     ensures out_after { out.new ≡ write_out (object_from object) out.old place }
 {
-    flat_object::write(&object, place, out)
+    scm::scm_write_object(object, place, out)
 }
 
 // A pool taken apart and written again.
@@ -93,7 +91,7 @@ pub extern "C" fn scm_pool_rewrite(bytes: &[u8], out: &mut [u8]) -> Rewritten
     ensures value { result ≡ rewrite_answer bytes.now out.old }
     ensures out_after { out.new ≡ rewrite_out bytes.now out.old }
 {
-    rewrite::rewrite(bytes, out)
+    scm::scm_pool_rewrite(bytes, out)
 }
 
 // What bytes that a side sent say: side 0 is a client, 1 the master.
@@ -101,7 +99,7 @@ pub extern "C" fn scm_pool_rewrite(bytes: &[u8], out: &mut [u8]) -> Rewritten
 pub extern "C" fn scm_read(side: u32, bytes: &[u8]) -> FlatReading
     ensures { result ≡ reading_of side bytes.now }
 {
-    flat::read(side, bytes)
+    scm::scm_read(side, bytes)
 }
 
 #[unsafe(no_mangle)]
@@ -109,7 +107,7 @@ pub extern "C" fn scm_write(message: Flat, out: &mut [u8]) -> Written
     ensures value { result ≡ written_of (message_from message) message.label [] (length out.old) }
     ensures out_after { out.new ≡ written_over (message_from message) message.label [] out.old }
 {
-    flat::write(message, out)
+    scm::scm_write(message, out)
 }
 
 #[unsafe(no_mangle)]
@@ -117,7 +115,7 @@ pub extern "C" fn scm_write_transfer(pool: &[u8], out: &mut [u8]) -> Written
     ensures value { result ≡ written_of Transfer blank pool.now (length out.old) }
     ensures out_after { out.new ≡ written_over Transfer blank pool.now out.old }
 {
-    message::write_transfer(pool, out)
+    scm::scm_write_transfer(pool, out)
 }
 
 #[unsafe(no_mangle)]
@@ -125,7 +123,7 @@ pub extern "C" fn scm_shown_of(value: u32, offset: i32, scale: f32) -> Shown
     ensures value { result ≡ shown_of value offset scale }
     ensures exact { Exact value offset scale result }
 {
-    shown::shown_of(value, offset, scale)
+    scm::scm_shown_of(value, offset, scale)
 }
 
 #[unsafe(no_mangle)]
@@ -133,7 +131,7 @@ pub extern "C" fn scm_shown_bits(value: u32, offset: i32, scale: u32) -> Shown
     ensures value { result ≡ shown_of value offset (of_bits binary32 scale) }
     ensures exact { Exact value offset (of_bits binary32 scale) result }
 {
-    shown::shown_bits(value, offset, scale)
+    scm::scm_shown_bits(value, offset, scale)
 }
 
 // The shown value as text.
@@ -147,7 +145,7 @@ pub extern "C" fn scm_write_shown(
 ) -> Printed
     ensures { Prints value offset scale decimals out.old out.new result }
 {
-    printed::print(value, offset, scale, decimals, out)
+    scm::scm_write_shown(value, offset, scale, decimals, out)
 }
 
 // ---- The master: each event takes the old state and gives back the new one.
@@ -156,28 +154,28 @@ pub extern "C" fn scm_write_shown(
 pub extern "C" fn scm_master_new() -> Master
     ensures { result ≡ new_master }
 {
-    Master::new()
+    scm::scm_master_new()
 }
 
 #[unsafe(no_mangle)]
 pub extern "C" fn scm_master_on(master: Master) -> Outcome
     ensures { result ≡ outcome_of master (on_call master) }
 {
-    master.on()
+    scm::scm_master_on(master)
 }
 
 #[unsafe(no_mangle)]
 pub extern "C" fn scm_master_off(master: Master) -> Outcome
     ensures { result ≡ outcome_of master (off_call master) }
 {
-    master.off()
+    scm::scm_master_off(master)
 }
 
 #[unsafe(no_mangle)]
 pub extern "C" fn scm_master_attach(master: Master, slot: usize, name: u64, pool: &[u8]) -> Outcome
     ensures { result ≡ outcome_of master (attach_call master slot name pool.now) }
 {
-    master.attach(slot, name, pool)
+    scm::scm_master_attach(master, slot, name, pool)
 }
 
 // E.2 out.
@@ -186,7 +184,7 @@ pub extern "C" fn scm_master_enable(master: Master, slot: usize, out: &mut [u8])
     ensures value { result ≡ outcome_of master (want_call 1 master slot out.old) }
     ensures out_after { out.new ≡ leaves_of (want_call 1 master slot out.old) }
 {
-    master.enable(slot, out)
+    scm::scm_master_enable(master, slot, out)
 }
 
 // E.2 out.
@@ -195,42 +193,42 @@ pub extern "C" fn scm_master_disable(master: Master, slot: usize, out: &mut [u8]
     ensures value { result ≡ outcome_of master (want_call 0 master slot out.old) }
     ensures out_after { out.new ≡ leaves_of (want_call 0 master slot out.old) }
 {
-    master.disable(slot, out)
+    scm::scm_master_disable(master, slot, out)
 }
 
 #[unsafe(no_mangle)]
 pub extern "C" fn scm_master_report(master: Master, slot: usize, report: u32) -> Outcome
     ensures { result ≡ outcome_of master (report_call master slot report) }
 {
-    master.report(slot, report)
+    scm::scm_master_report(master, slot, report)
 }
 
 #[unsafe(no_mangle)]
 pub extern "C" fn scm_master_lost(master: Master, slot: usize) -> Outcome
     ensures { result ≡ outcome_of master (lost_call master slot) }
 {
-    master.lost(slot)
+    scm::scm_master_lost(master, slot)
 }
 
 #[unsafe(no_mangle)]
 pub extern "C" fn scm_master_record(master: Master) -> Outcome
     ensures { result ≡ outcome_of master (record_call master) }
 {
-    master.record()
+    scm::scm_master_record(master)
 }
 
 #[unsafe(no_mangle)]
 pub extern "C" fn scm_master_stop(master: Master) -> Outcome
     ensures { result ≡ outcome_of master (stop_call master) }
 {
-    master.stop()
+    scm::scm_master_stop(master)
 }
 
 #[unsafe(no_mangle)]
 pub extern "C" fn scm_master_cancel(master: Master) -> Outcome
     ensures { result ≡ outcome_of master (cancel_call master) }
 {
-    master.cancel()
+    scm::scm_master_cancel(master)
 }
 
 // E.4 in, E.5 out.
@@ -244,7 +242,7 @@ pub extern "C" fn scm_master_indication(
     ensures value { result ≡ outcome_of master (indication_call master slot msg.now out.old) }
     ensures out_after { out.new ≡ leaves_of (indication_call master slot msg.now out.old) }
 {
-    master.indication(slot, msg, out)
+    scm::scm_master_indication(master, slot, msg, out)
 }
 
 // E.3 in.
@@ -252,21 +250,21 @@ pub extern "C" fn scm_master_indication(
 pub extern "C" fn scm_master_client_abort(master: Master, slot: usize, msg: &[u8]) -> Outcome
     ensures { result ≡ outcome_of master (client_abort_call master slot msg.now) }
 {
-    master.client_abort(slot, msg)
+    scm::scm_master_client_abort(master, slot, msg)
 }
 
 #[unsafe(no_mangle)]
 pub extern "C" fn scm_master_start(master: Master) -> Outcome
     ensures { result ≡ outcome_of master (start_call master) }
 {
-    master.start()
+    scm::scm_master_start(master)
 }
 
 #[unsafe(no_mangle)]
 pub extern "C" fn scm_master_abort(master: Master) -> Outcome
     ensures { result ≡ outcome_of master (abort_call master) }
 {
-    master.abort()
+    scm::scm_master_abort(master)
 }
 
 // The frames out: the slot and E.6.
@@ -275,7 +273,7 @@ pub extern "C" fn scm_master_tick(master: Master, mm: u32, out: &mut [u8]) -> Ou
     ensures value { result ≡ outcome_of master (tick_call master mm out.old) }
     ensures out_after { out.new ≡ leaves_of (tick_call master mm out.old) }
 {
-    master.tick(mm, out)
+    scm::scm_master_tick(master, mm, out)
 }
 
 // E.7 in, E.8 out.
@@ -289,7 +287,7 @@ pub extern "C" fn scm_master_answer(
     ensures value { result ≡ outcome_of master (answer_call master slot msg.now out.old) }
     ensures out_after { out.new ≡ leaves_of (answer_call master slot msg.now out.old) }
 {
-    master.answer(slot, msg, out)
+    scm::scm_master_answer(master, slot, msg, out)
 }
 
 // The sequence's blocks out.
@@ -298,21 +296,21 @@ pub extern "C" fn scm_master_store(master: Master, blocks: &mut [u8]) -> Outcome
     ensures value { result ≡ outcome_of master (store_call master blocks.old) }
     ensures blocks_after { blocks.new ≡ leaves_of (store_call master blocks.old) }
 {
-    master.store(blocks)
+    scm::scm_master_store(master, blocks)
 }
 
 #[unsafe(no_mangle)]
 pub extern "C" fn scm_master_load(master: Master, blocks: &[u8]) -> Outcome
     ensures { result ≡ outcome_of master (load_call master blocks.now) }
 {
-    master.load(blocks)
+    scm::scm_master_load(master, blocks)
 }
 
 #[unsafe(no_mangle)]
 pub extern "C" fn scm_master_edition(master: Master, edition: u32) -> Outcome
     ensures { result ≡ outcome_of master (edition_call master edition) }
 {
-    master.edition(edition)
+    scm::scm_master_edition(master, edition)
 }
 
 // ---- The readers: each takes the part of the master that it reads, or the whole where it reads the slots.
@@ -321,49 +319,49 @@ pub extern "C" fn scm_master_edition(master: Master, edition: u32) -> Outcome
 pub extern "C" fn scm_master_state(state: u8) -> u8
     ensures { result ≡ state_of state }
 {
-    master::readers::state_of(state)
+    scm::scm_master_state(state)
 }
 
 #[unsafe(no_mangle)]
 pub extern "C" fn scm_master_slot(master: Master, slot: usize) -> SlotView
     ensures { result ≡ slot_view master slot }
 {
-    master.slot(slot)
+    scm::scm_master_slot(master, slot)
 }
 
 #[unsafe(no_mangle)]
 pub extern "C" fn scm_master_step_count(sequence: Sequence) -> usize
     ensures { result ≡ length_of sequence }
 {
-    sequence.len()
+    scm::scm_master_step_count(sequence)
 }
 
 #[unsafe(no_mangle)]
 pub extern "C" fn scm_master_sequence_edition(sequence: Sequence) -> u32
     ensures { result ≡ edition_of sequence }
 {
-    master::readers::edition_of(&sequence)
+    scm::scm_master_sequence_edition(sequence)
 }
 
 #[unsafe(no_mangle)]
 pub extern "C" fn scm_master_step(sequence: Sequence, i: usize) -> StepView
     ensures { result ≡ step_view sequence i }
 {
-    master::readers::step_at(&sequence, i)
+    scm::scm_master_step(sequence, i)
 }
 
 #[unsafe(no_mangle)]
 pub extern "C" fn scm_master_client(sequence: Sequence, slot: usize) -> ClientView
     ensures { result ≡ client_view sequence slot }
 {
-    master::readers::client_at(&sequence, slot)
+    scm::scm_master_client(sequence, slot)
 }
 
 #[unsafe(no_mangle)]
 pub extern "C" fn scm_master_verify(master: Master) -> Named
     ensures { result ≡ verify_view master }
 {
-    master.verify()
+    scm::scm_master_verify(master)
 }
 
 #[unsafe(no_mangle)]
@@ -374,19 +372,19 @@ pub extern "C" fn scm_master_progress(
 ) -> Progress
     ensures { result ≡ progress_of state recording playback }
 {
-    master::readers::progress_of(state, &recording, &playback)
+    scm::scm_master_progress(state, recording, playback)
 }
 
 #[unsafe(no_mangle)]
 pub extern "C" fn scm_master_taken(recording: Recording, i: usize) -> TakenView
     ensures { result ≡ taken_view recording i }
 {
-    master::readers::taken_at(&recording, i)
+    scm::scm_master_taken(recording, i)
 }
 
 #[unsafe(no_mangle)]
 pub extern "C" fn scm_master_sent(playback: Playback, i: usize) -> SentView
     ensures { result ≡ sent_view playback i }
 {
-    master::readers::sent_at(&playback, i)
+    scm::scm_master_sent(playback, i)
 }
