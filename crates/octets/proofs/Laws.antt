@@ -6,7 +6,7 @@ use native.Mathlib.Numerals.{add-one}
 use native.Mathlib.Omega.{arith}
 use mathlib.Core.Path.{◌≡◌, refl, sym, ap, subst, ◌∙◌}
 use mathlib.Core.List.{List, [], ◌∷◌, ◌++◌}
-use lib.ListN.{length, get_or, take, drop, set, replicate, length-set, length-take, get_or-eq_default}
+use lib.ListN.{length, get_or, take, drop, set, replicate, length-set, length-take, get_or-eq_default, drop_of_length-le}
 use lib.Seq.{sets, set_out, drop-cons, drop-drop, drop_at, get_or-drop, get_or-take}
 use Rattle.std.specs.Int.{w16, w32, w64, from_le_bytes, to_le_bytes}
 use Rattle.octets.specs.Octets.{number_at, bytes_of}
@@ -190,3 +190,18 @@ module _ (out : List ℕ) (i : ℕ) where
   put_end w k v h =
       let e : w - k ≡ 0 = omega arith in
       ap (λ (n : ℕ). sets out (i + k) (bytes_of n v)) e
+
+-- the bytes of a list, from its byte k on
+module _ (out : List ℕ) (i : ℕ) (bytes : List ℕ) where
+  pub stored_start : sets out i bytes ≡ sets out (i + 0) (drop 0 bytes)
+  stored_start = ap (λ (j : ℕ). sets out j bytes) (sym (add-zero i))
+
+  pub stored_step : (k : ℕ) → k < length bytes → sets out (i + k) (drop k bytes) ≡ sets (set out (i + k) (get_or bytes k 0)) (i + (k + 1)) (drop (k + 1) bytes)
+  stored_step k h =
+      let e : suc (i + k) ≡ i + (k + 1) = omega arith in
+      ap (sets out (i + k)) (drop-cons bytes k 0 h)
+      ∙ ap (λ (j : ℕ). sets (set out (i + k) (get_or bytes k 0)) j (drop (suc k) bytes)) e
+      ∙ ap (λ (n : ℕ). sets (set out (i + k) (get_or bytes k 0)) (i + (k + 1)) (drop n bytes)) (sym (add-one k))
+
+  pub stored_end : (k : ℕ) → length bytes ≤ k → sets out (i + k) (drop k bytes) ≡ out
+  stored_end k h = ap (sets out (i + k)) (drop_of_length-le bytes h)

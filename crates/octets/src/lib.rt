@@ -169,7 +169,9 @@ pub fn put_bytes(out: &mut [u8], i: usize, bytes: &[u8])
     requires { i + length bytes.now ≤ length out.old }
     ensures { out.new ≡ sets out.old i bytes.now }
 {
-    out[i..i + bytes.len()].copy_from_slice(bytes);
+    for (k, byte) in bytes.iter().enumerate() {
+        out[i + k] = *byte;
+    }
 }
 
 #[tactic(auto, unfolding(crate::specs::Bits::has_bit))]

@@ -1,15 +1,23 @@
--- `octets::put_bytes` meets its contract: what is copied over a part of a slice is what stores from its start on leave.
+-- `octets::put_bytes` meets its contract. The loop's invariant: what is to be stored from the start is what is to be stored from here.
 use native.Mathlib.Omega.{arith}
-use Prim.Native.Nat.{◌+◌, ◌-◌}
-use lib.ListN.{length}
-use lib.Seq.{drop-drop}
-use mathlib.Core.Path.{◌≡◌}
-use Rattle.std.proofs.Common.{append_assoc}
-use Rattle.std.proofs.lemmas.List.Edits.{sets-eq}
+use mathlib.Core.Path.{refl, sym, ◌∙◌}
+use lib.ListN.{length-set}
+use Rattle.octets.proofs.Laws.{stored_start, stored_step, stored_end}
 use Rattle.octets.proofs.put_bytes.Goals as goal
+
+pub loop-k-init : goal.loop-k-init
+loop-k-init c =
+    let a = c.args in
+    (stored_start a.out.now a.i a.bytes.now, refl)
+
+pub loop-k-preserved : goal.loop-k-preserved
+loop-k-preserved c =
+    let i = c.loop-k in
+    let a = c.args in
+    (i.invariant.0 ∙ stored_step i.out a.i a.bytes.now i.k (omega arith), simp length-set i.invariant.1)
 
 pub returns : goal.returns
 returns c =
+    let i = c.loop-k in
     let a = c.args in
-    let e : a.i + length a.bytes.now - a.i ≡ length a.bytes.now = omega arith in
-    rw (c.copy_from_slice.ensures.after, e, drop-drop (length a.bytes.now) a.i a.out.now, sets-eq a.bytes.now a.out.now a.i c.requires, append_assoc)
+    sym (i.invariant.0 ∙ stored_end i.out a.i a.bytes.now i.k (omega arith))
