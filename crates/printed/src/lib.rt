@@ -16,7 +16,7 @@ mod digits;
 mod number;
 mod text;
 
-use text::Laid;
+pub use text::Laid;
 
 // Number 0 and how many bytes of text were written, or the refusal and length 0.
 #[repr(C)]
