@@ -1,4 +1,5 @@
-// The calls for C, as include/scm.h declares them: each is the function of crate scm of its name, with the same contract. This crate is libscm.a.
+// The calls for C, as include/scm.h declares them: each is the function of crate scm of its name, with the same contract, and only calls it. The gate sees
+// that it does. This crate is libscm.a.
 #![tactic(auto)]
 
 ghost use Rattle.std.specs.Prelude.{◌≡◌, [], length};

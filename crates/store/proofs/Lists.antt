@@ -4,7 +4,7 @@ use mathlib.Core.Path.{◌≡◌, refl, sym, ap, ◌∙◌}
 use mathlib.Core.Bool.{Bool, true, false, ◌||◌, cond, true≢false, or-true}
 use mathlib.Core.List.{List, [], ◌∷◌, ◌++◌}
 use native.Mathlib.Omega.{arith}
-use lib.ListN.{length, take, drop, get_or, replicate, length-drop}
+use lib.ListN.{length, take, drop, get_or, replicate, length-drop, get_or-append}
 use Rattle.octets.specs.Label.{row_of}
 use Rattle.arrays.specs.{Arrays.some, Arrays.those, Arrays.pad_to, Every.Every}
 use Rattle.std.proofs.lemmas.List.{take_min}
@@ -102,3 +102,7 @@ module _ {X : Type 0} (blank : X) where
   pad_is (suc n) (x ∷ l) h =
       let z : suc n - suc (length l) ≡ n - length l = omega arith in
       rw z (ap (λ (k : List X). x ∷ k) (pad_is n l (omega arith)))
+
+  -- a cell that is used
+  pub pad_at : (n : ℕ) (l : List X) (k : ℕ) (d : X) → k < length l → length l ≤ n → get_or (pad_to blank n l) k d ≡ get_or l k d
+  pad_at n l k d h m = ap (λ (r : List X). get_or r k d) (pad_is n l m) ∙ get_or-append l (replicate (n - length l) blank) d k h
