@@ -6,7 +6,6 @@ ghost use Rattle.playback.specs.Verification.{rule_of, client_checks};
 ghost use Rattle.playback.specs.Named.{fails, named_by, named_of};
 
 pub use crate::checks::lowest_not_ready;
-
 use crate::checks::{client_check, first_missing};
 use crate::verify;
 use client::{Client, SLOTS};

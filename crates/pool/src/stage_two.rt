@@ -11,10 +11,10 @@ ghost use Rattle.pool.specs.Search.Index.{Within, Indexed};
 ghost use Rattle.pool.specs.Search.Look.{Right, set_of, Sets};
 ghost use Rattle.pool.specs.StageTwo.{object_of, id_of, first_repeat, label_bytes, is_forbidden, character_right, repeat_fault, character_fault, absent_fault, ids_fault, states_absent, states_alike, rules_of};
 
-use crate::{ObjectType, STATE_TYPE};
 use crate::fields::{Listed, base_at, functions_of, id_at, states_of, version_label};
 use crate::seen::Seen;
 use crate::verdicts::{Code, Fault};
+use crate::{ObjectType, STATE_TYPE};
 use octets::{has_bit, u16_in, with_bit};
 
 // How many chains there are.
@@ -82,7 +82,8 @@ impl<'a> Index<'a> {
         ensures place { result ≡ object_of self.now.pool.now self.now.places.now (type_number kind) n }
         ensures within { result ≤ 16384 }
     {
-        self.find_object(kind.number(), n).unwrap_or(self.pool.len())
+        self.find_object(kind.number(), n)
+            .unwrap_or(self.pool.len())
     }
 
     // The ID of each object of this type in a list of numbers, at the front; the other cells are 0.

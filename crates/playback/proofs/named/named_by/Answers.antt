@@ -27,9 +27,12 @@ unfolding pick named_by
 returns-in-8-to-255 c =
     let a = c.args in
     let n = a.number in
-    rw
-    (ne_eqb n 11 (λ z. omega arith), ne_eqb n 12 (λ z. omega arith), le-leb 8 n (omega arith),
-    c.unwrap_or-in-8-to-255.ensures ∙ lowest_is _ a.sequence.now (client_checks (rule_of a.sequence.now.edition)) _ c.lowest_failing.ensures)
+    rw (
+      ne_eqb n 11 (λ z. omega arith),
+      ne_eqb n 12 (λ z. omega arith),
+      le-leb 8 n (omega arith),
+      c.unwrap_or-in-8-to-255.ensures ∙ lowest_is _ a.sequence.now (client_checks (rule_of a.sequence.now.edition)) _ c.lowest_failing.ensures,
+    )
 
 pub returns-in_default : goal.returns-in_default
 unfolding pick named_by
