@@ -2,6 +2,7 @@
 #![tactic(auto)]
 
 ghost use Rattle.std.specs.Prelude.{◌≡◌, ◌<◌, ◌≤◌, IfOk, length};
+ghost use Rattle.pool.specs.Pool.{verdict_of};
 ghost use Rattle.poolcheck.specs.Line.{digit_of, line_of};
 
 use pool::Verdict;
@@ -48,6 +49,7 @@ fn read_full<R: Read>(input: &mut R, buffer: &mut [u8]) -> io::Result<usize>
 }
 
 // Takes in what is left of the input, so that whoever writes it is not cut off.
+#[inline(never)]
 fn drain<R: Read>(input: &mut R) -> io::Result<()> {
     let mut buffer = [0; 65536];
     for _ in 0..u64::MAX {
@@ -58,12 +60,20 @@ fn drain<R: Read>(input: &mut R) -> io::Result<()> {
     Ok(())
 }
 
+// The check, and the reading of what is left, have frames of their own: laid into main, their arrays would add up on the stack.
+#[inline(never)]
+fn check(bytes: &[u8]) -> Verdict
+    ensures { result ≡ verdict_of bytes.now }
+{
+    pool::check(bytes)
+}
+
 // A pool that fills the buffer is longer than any that is taken, so its verdict does not depend on what follows.
 fn main(rt: HostRuntime) -> io::Result<()> {
     let mut input = rt.reader();
     let mut buffer = [0; 65536];
     let n = read_full(&mut input, &mut buffer)?;
-    let verdict = pool::check(&buffer[..n]);
+    let verdict = check(&buffer[..n]);
     if n == 65536 {
         drain(&mut input)?;
     }
