@@ -169,6 +169,7 @@ pub fn put_bytes(out: &mut [u8], i: usize, bytes: &[u8])
     requires { i + length bytes.now ≤ length out.old }
     ensures { out.new ≡ sets out.old i bytes.now }
 {
+    // By `copy_from_slice` the archive would call `memmove` of the C library.
     for (k, byte) in bytes.iter().enumerate() {
         out[i + k] = *byte;
     }

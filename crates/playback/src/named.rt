@@ -47,7 +47,7 @@ fn slot_of(sequence: &Sequence, i: usize) -> usize
     }
 }
 
-// A number that a start gives, with the slot and the step that it is about.
+// A number, with the slot and the step that it is about.
 pub fn named_by(number: u8, slots: &[Client; SLOTS], sequence: &Sequence) -> Named
     ensures { result ≡ named_by number slots.now sequence.now }
 {

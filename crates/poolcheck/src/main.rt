@@ -37,6 +37,7 @@ fn line(v: Verdict) -> [u8; 8]
 fn read_full<R: Read>(input: &mut R, buffer: &mut [u8]) -> io::Result<usize>
     ensures { IfOk result (λ n. n ≤ length buffer.new) }
 {
+    // The library's read_exact does not say how many bytes came before the end, and its read_to_end needs a heap.
     let mut done = 0;
     while done < buffer.len() {
         let n = input.read(&mut buffer[done..])?;
