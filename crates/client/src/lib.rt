@@ -159,7 +159,14 @@ impl Client {
     pub fn is_other(&self, report: Report) -> bool
         ensures { result ≡ is_other (report_number report) self.now }
     {
-        self.is_enabled() & (self.report != report.number())
+        self.reports_other(report.number())
+    }
+
+    // The same of any number.
+    fn reports_other(&self, report: u8) -> bool
+        ensures { result ≡ is_other report self.now }
+    {
+        self.is_enabled() & (self.report != report)
     }
 
     fn passes(&self, test: Test) -> bool
@@ -169,7 +176,7 @@ impl Client {
             Test::Awake => self.is_awake(),
             Test::Enabled => self.is_enabled(),
             Test::Named(name) => self.is_named(name),
-            Test::Other(report) => self.is_enabled() & (self.report != report),
+            Test::Other(report) => self.reports_other(report),
         }
     }
 
