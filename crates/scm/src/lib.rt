@@ -45,7 +45,7 @@ use sequence::Sequence;
 use shown::Shown;
 
 // 2.1.1: major * 1,000,000 + minor * 1,000 + patch.
-const VERSION: u32 = 2001001;
+pub const VERSION: u32 = 2001001;
 
 #[inline(always)]
 pub fn scm_version() -> u32
